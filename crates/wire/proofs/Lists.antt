@@ -1,0 +1,61 @@
+-- Laws of the tests and counts on lists. Assumes nothing.
+use mathlib.Core.Path.{_≡_, refl, ap, _∙_}
+use mathlib.Core.Bool.{Bool, true, false, _&&_, false≢true}
+use mathlib.Core.List.{List, [], _∷_}
+use Prim.Native.Nat.{ℕ, zero, suc, _+_, _≤_, _<_}
+use native.Mathlib.Numerals.{add-one}
+use native.Mathlib.Omega.{arith}
+use lib.ListN.{length, drop, getD, set, drop-of-length-le}
+use lib.Seq.{drop-cons}
+use borrow.Author.Tests.{leb-true, le-leb}
+use lib.Dec.{leb}
+use Rattle.wire.specs.Lists.{all, atMost, bump}
+
+module _ {A : Type 0} (p : A → Bool) (xs : List A) (d : A) where
+  -- the test fails at i
+  pub all-stop : (i : ℕ) → i < length xs → p (getD xs i d) ≡ false → all p xs ≡ all p (drop i xs) → all p xs ≡ false
+  all-stop i h e q = q ∙ (rw (drop-cons xs i d) (rw e))
+
+  -- the test passes at i
+  pub all-step : (i : ℕ) → i < length xs → p (getD xs i d) ≡ true → all p xs ≡ all p (drop i xs) → all p xs ≡ all p (drop (i + 1) xs)
+  all-step i h e q = q ∙ (rw (drop-cons xs i d) (rw (e, add-one)))
+
+  -- every test passed
+  pub all-end : (i : ℕ) → length xs ≤ i → all p xs ≡ all p (drop i xs) → all p xs ≡ true
+  all-end i h q = q ∙ ap (λ (l : List A). all p l) (drop-of-length-le xs h)
+
+-- a conjunction's two parts
+pub and-left : (a b : Bool) → (a && b) ≡ true → a ≡ true
+and-left true b h = refl
+and-left false b h = h
+
+pub and-right : (a b : Bool) → (a && b) ≡ true → b ≡ true
+and-right true b h = h
+and-right false b h = absurd (false≢true h)
+
+pub and-split : (a b : Bool) → (a && b) ≡ true → (a ≡ true) × (b ≡ true)
+and-split a b h = (and-left a b h, and-right a b h)
+
+-- where each number is at most m, so is the one at k
+pub all-at : (m : ℕ) (xs : List ℕ) (k : ℕ) → all (atMost m) xs ≡ true → getD xs k 0 ≤ m
+all-at m [] k h = omega arith
+all-at m (x ∷ xs) zero h = leb-true x m (and-left (leb x m) (all (atMost m) xs) h)
+all-at m (x ∷ xs) (suc k) h = all-at m xs k (and-right (leb x m) (all (atMost m) xs) h)
+
+-- where each number is at most m, and n is at most m, each is so after n is put at i
+pub all-set : (m : ℕ) (xs : List ℕ) (i n : ℕ) → all (atMost m) xs ≡ true → n ≤ m → all (atMost m) (set xs i n) ≡ true
+all-set m [] i n h q = h
+all-set m (x ∷ xs) zero n h q = rw (le-leb n m q) (and-right (leb x m) (all (atMost m) xs) h)
+all-set m (x ∷ xs) (suc i) n h q =
+    rw (and-left (leb x m) (all (atMost m) xs) h) (all-set m xs i n (and-right (leb x m) (all (atMost m) xs) h) q)
+
+-- a larger limit
+pub all-more : (m n : ℕ) (xs : List ℕ) → m ≤ n → all (atMost m) xs ≡ true → all (atMost n) xs ≡ true
+all-more m n [] q h = h
+all-more m n (x ∷ xs) q h =
+    let t : x ≤ m = leb-true x m (and-left (leb x m) (all (atMost m) xs) h) in
+    rw (le-leb x n (omega arith)) (all-more m n xs q (and-right (leb x m) (all (atMost m) xs) h))
+
+-- one more at i, and the limit one more
+pub all-bump : (m : ℕ) (xs : List ℕ) (i : ℕ) → all (atMost m) xs ≡ true → all (atMost (m + 1)) (bump xs i) ≡ true
+all-bump m xs i h = all-set (m + 1) xs i _ (all-more m (m + 1) xs (omega arith) h) (omega (arith, all-at m xs i h))

@@ -1,0 +1,102 @@
+use borrow.Author.Needs.{needs}
+use Prim.Native.Nat.{ℕ, suc, _≤_, _<_, _-_, _+_, _*_, _%_}
+use mathlib.Core.Path.{_≡_, ap, refl, sym, _∙_}
+use mathlib.Core.List.{List}
+use native.Mathlib.Omega.{arith}
+use lib.ListN.{length, take, getD}
+use lib.Seq.{take-all}
+use denote.Ref.{now}
+use Rattle.wire.specs.Bytes.{put, be32, words}
+use Rattle.wire.proofs.Bytes.{put-put, put-nil, length-put, words-take, length-words-take}
+use Rattle.wire.proofs.write.put_words.Statement.{statement}
+use Rattle.wire.proofs.write.put_words.Tie as tie
+use Rattle.wire.proofs.write.put_words.Reads as reads
+use Rattle.wire.proofs.write.put_words.Lts as lts
+use Rattle.wire.proofs.write.put_u32.Reads as put-u32-reads
+
+abbrev Inv-loop : tie.InvT-loop
+Inv-loop part₀ at ws i₀ part i = (i ≤ length ws) × ((part ≡ put part₀ at (words (take i ws))) × (length part ≡ length part₀))
+
+abbrev μ-loop : tie.MeasureT-loop
+μ-loop part₀ at ws i₀ part i = length ws - i
+
+-- src/lib.rt:54:5
+loop-holds : tie.Need-loop-holds Inv-loop μ-loop
+unfolding words
+loop-holds c = (omega arith, (put-nil _ _, refl))
+
+-- src/lib.rt:55:28
+mul-put-u32 : tie.Need-mul-put-u32 Inv-loop μ-loop
+mul-put-u32 c = search needs
+
+-- src/lib.rt:55:23
+add-put-u32 : tie.Need-add-put-u32 Inv-loop μ-loop
+add-put-u32 c = search needs
+
+-- src/lib.rt:55:35
+mul-put-u32-2 : tie.Need-mul-put-u32-2 Inv-loop μ-loop
+mul-put-u32-2 c = search needs
+
+-- src/lib.rt:55:35
+shared-slice-read-put-u32 : tie.Need-shared-slice-read-put-u32 Inv-loop μ-loop
+shared-slice-read-put-u32 c = search needs
+
+-- src/lib.rt:55:9
+put-u32-requires : tie.Need-put-u32-requires Inv-loop μ-loop
+put-u32-requires c κs = search needs
+
+-- src/lib.rt:56:9
+add-i : tie.Need-add-i Inv-loop μ-loop
+add-i c = search needs
+
+-- src/lib.rt:54:5
+loop-less : tie.Need-loop-less Inv-loop μ-loop
+loop-less c = search needs
+
+-- src/lib.rt:54:5
+loop-again : tie.Need-loop-again Inv-loop μ-loop
+loop-again c =
+    let l = c .before .before .before .before .before .before in
+    let a = l .before .before .before .args in
+    let xs = now (a .part) in
+    let ws = now (a .ws) in
+    let i = l .loop .i in
+    let lw : length (words (take i ws)) ≡ 4 * i = length-words-take ws i (omega arith) in (
+      omega arith,
+      (
+        c .before .before .put-u32 .ensures
+            ∙ ap (λ (d : List ℕ). put d (a .at + 4 * i) (be32 (getD ws i 0))) (l .loop .inv .1 .0)
+            ∙ put-put xs (a .at) (words (take i ws)) (be32 (getD ws i 0)) (a .at + 4 * i) (omega arith) (omega arith)
+            ∙ ap (λ (v : List ℕ). put xs (a .at) v) (sym (words-take ws i (omega arith))),
+        omega arith,
+      ),
+    )
+
+-- src/lib.rt:49:1
+same-length : tie.Need-same-length Inv-loop μ-loop
+same-length c = search needs
+
+-- src/lib.rt:49:1
+returns : tie.Need-returns Inv-loop μ-loop
+returns c =
+    let l = c .before in
+    let a = l .before .before .before .args in
+    l .loop .inv .1 .0 ∙ ap (λ (v : List ℕ). put (now (a .part)) (a .at) (words v)) (take-all (l .loop .i) (now (a .ws)) (omega arith))
+
+pub put-words-spec : {M : Type 1} → statement M
+put-words-spec =
+    tie.close
+    (tie.spec
+    Inv-loop
+    μ-loop
+    loop-holds
+    mul-put-u32
+    add-put-u32
+    mul-put-u32-2
+    shared-slice-read-put-u32
+    put-u32-requires
+    add-i
+    loop-less
+    loop-again
+    same-length
+    returns)

@@ -1,0 +1,23 @@
+-- Tests and counts on lists that several crates share. Assumes nothing.
+use Prim.Native.Nat.{ℕ, _+_, _<_}
+use mathlib.Core.Bool.{Bool, true, false, _&&_}
+use mathlib.Core.List.{List, [], _∷_}
+use lib.ListN.{getD, set}
+use lib.Dec.{leb}
+
+-- each element passes the test
+abbrev pub all : {A : Type 0} → (A → Bool) → List A → Bool
+all p [] = true
+all p (x ∷ xs) = p x && all p xs
+
+-- x is at most the limit
+abbrev pub atMost : ℕ → ℕ → Bool
+atMost limit x = leb x limit
+
+-- every number of the list is below n
+abbrev pub EachBelow : ℕ → List ℕ → Type 0
+EachBelow n xs = (k : ℕ) → getD xs k 0 < n
+
+-- one more at index i
+abbrev pub bump : List ℕ → ℕ → List ℕ
+bump xs i = set xs i (getD xs i 0 + 1)

@@ -1,0 +1,3 @@
+// Bytes in lent buffers: big-endian numbers and runs of bytes, written and read, and the sum of bytes.
+pub mod read;
+pub mod write;
