@@ -2,6 +2,9 @@
 ghost use mathlib.Core.Path.{_≡_};
 ghost use Rattle.settings.specs.Settings.{freshSettings, settingsWithin};
 
+// How many sample slots there are, and how many of them LIMHI can let be replaced.
+pub const SLOTS: u16 = 704;
+
 pub struct Settings {
     // How many sample slots later events of priority 1 may replace.
     pub limhi: u16,
@@ -29,9 +32,9 @@ pub fn fresh() -> Settings
     }
 }
 
-// Whether each setting is in its range, where there are so many sample slots. Every hvstep is.
-pub fn within(s: Settings, slots: u16) -> bool
-    ensures { λ r. ⌜ r ≡ settingsWithin slots s ⌝ }
+// Whether each setting is in its range. Every value of the other fields is.
+pub fn within(s: Settings) -> bool
+    ensures { λ r. ⌜ r ≡ settingsWithin s ⌝ }
 {
-    s.limhi <= slots
+    s.limhi <= SLOTS
 }
