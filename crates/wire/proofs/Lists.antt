@@ -6,10 +6,11 @@ use Prim.Native.Nat.{ℕ, zero, suc, _+_, _≤_, _<_}
 use native.Mathlib.Numerals.{add-one}
 use native.Mathlib.Omega.{arith}
 use lib.ListN.{length, drop, getD, set, drop-of-length-le}
-use lib.Seq.{drop-cons}
+use lib.Seq.{drop-cons, getD-set-same, getD-set-other, set-out}
 use borrow.Author.Tests.{leb-true, le-leb}
 use lib.Dec.{leb}
-use Rattle.wire.specs.Lists.{all, atMost, bump}
+use native.Mathlib.Decide.{ℕ-discrete, decLt}
+use Rattle.wire.specs.Lists.{all, atMost, EachBelow, bump}
 
 module _ {A : Type 0} (p : A → Bool) (xs : List A) (d : A) where
   -- the test fails at i
@@ -59,3 +60,16 @@ all-more m n (x ∷ xs) q h =
 -- one more at i, and the limit one more
 pub all-bump : (m : ℕ) (xs : List ℕ) (i : ℕ) → all (atMost m) xs ≡ true → all (atMost (m + 1)) (bump xs i) ≡ true
 all-bump m xs i h = all-set (m + 1) xs i _ (all-more m (m + 1) xs (omega arith) h) (omega (arith, all-at m xs i h))
+
+-- a larger bound on every number
+pub each-more : (m n : ℕ) (xs : List ℕ) → m ≤ n → EachBelow m xs → EachBelow n xs
+each-more m n xs h b k = omega (arith, b k)
+
+-- one more at i, and the bound one more
+pub each-bump : (n : ℕ) (xs : List ℕ) (i : ℕ) → EachBelow n xs → EachBelow (n + 1) (bump xs i)
+each-bump n xs i b k = go (ℕ-discrete k i) (decLt i (length xs))
+  where
+    go : Dec (k ≡ i) → Dec (i < length xs) → getD (bump xs i) k 0 < n + 1
+    go (no d) e = rw (getD-set-other xs i k (getD xs i 0 + 1) 0 d) (omega (arith, b k))
+    go (yes q) (yes h) = rw (q, getD-set-same xs i (getD xs i 0 + 1) 0 h) (omega (arith, b i))
+    go (yes q) (no h) = rw (set-out xs i (getD xs i 0 + 1) (omega arith)) (omega (arith, b k))

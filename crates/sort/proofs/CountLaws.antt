@@ -1,0 +1,34 @@
+-- Laws of the counts. Assumes nothing.
+use mathlib.Core.Path.{_≡_, refl, ap}
+use mathlib.Core.Bool.{Bool, true, false, cond}
+use mathlib.Core.List.{List, [], _∷_}
+use Prim.Native.Nat.{ℕ, _+_, _-_}
+use lib.Dec.{leb}
+use Rattle.wire.specs.Lists.{EachBelow, bump}
+use Rattle.wire.proofs.Lists.{each-bump}
+use Rattle.sort.specs.declared.counts.Counts.{Counts}
+use Rattle.sort.specs.declared.matrix.Cell.{Cell}
+use Rattle.sort.specs.declared.sorting.Outcome.the-variants.{InCell}
+use Rattle.sort.specs.Counts.{gainBox, priorityBox, withBox, withBeacon, tallied, countedOf}
+
+-- bounds on the counts after one more in a box
+module _ (n : ℕ) (c r : Counts) (b : ℕ) (e : r ≡ withBox c b) where
+  pub box-below : EachBelow n (c .boxes) → EachBelow (n + 1) (r .boxes)
+  box-below h k = rw e (each-bump n (c .boxes) (b - 1) h k)
+
+  pub box-beacons : EachBelow n (c .beacons) → EachBelow n (r .beacons)
+  box-beacons h k = rw e (h k)
+
+-- a beacon that is not 0 is a list of one
+tallied-beacon : (t : Bool) (xs : List ℕ) (n : ℕ) → cond t (bump xs (n - 1)) xs ≡ tallied xs (cond t (n ∷ []) [])
+tallied-beacon true xs n = refl
+tallied-beacon false xs n = refl
+
+-- the steps of an event in a cell
+pub cell-counted : (c : Counts) (gain : Bool) (cell : Cell)
+    → withBeacon (withBox (withBox (withBox c (gainBox gain)) (priorityBox (cell .priority))) (cell .ratebox)) (cell .beacon) ≡ countedOf c (InCell gain cell)
+unfolding countedOf
+cell-counted c gain cell = λ i. record {
+  boxes = tallied (c .boxes) (gainBox gain ∷ priorityBox (cell .priority) ∷ cell .ratebox ∷ []);
+  beacons = tallied-beacon (leb 1 (cell .beacon)) (c .beacons) (cell .beacon) i;
+}

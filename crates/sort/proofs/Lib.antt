@@ -1,0 +1,5 @@
+pub mod ColumnLaws
+pub mod CountLaws
+pub mod EventLaws
+pub mod MachineDivision
+pub mod RecordLaws

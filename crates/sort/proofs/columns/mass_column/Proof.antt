@@ -1,0 +1,63 @@
+use mathlib.Core.Path.{sym, ap, _∙_}
+use lib.IntN.{ℤ}
+use mir.Syntax.{w32}
+use mir.ValLaws.{toZ-ofZ}
+use Rattle.sort.specs.Columns.{floorZ}
+use Rattle.sort.proofs.ColumnLaws.{mass-sub}
+use borrow.Author.Needs.{needs}
+use Rattle.sort.proofs.columns.mass_column.Statement.{statement}
+use Rattle.sort.proofs.columns.mass_column.Tie as tie
+use Rattle.sort.proofs.columns.mass_column.Reads as reads
+use Rattle.sort.proofs.columns.mass_column.Lts as lts
+use Rattle.sort.proofs.columns.difference.Reads as difference-reads
+use Rattle.sort.proofs.columns.floor_div.Reads as floor-div-reads
+
+-- src/columns.rt:33:31
+add-difference : tie.Need-add-difference
+add-difference c = search needs
+
+-- src/columns.rt:33:31
+add-difference-2 : tie.Need-add-difference-2
+add-difference-2 c = search needs
+
+-- src/columns.rt:33:26
+mul-difference : tie.Need-mul-difference
+mul-difference c = search needs
+
+-- src/columns.rt:33:52
+add-difference-3 : tie.Need-add-difference-3
+add-difference-3 c = search needs
+
+-- src/columns.rt:33:47
+mul-difference-2 : tie.Need-mul-difference-2
+mul-difference-2 c = search needs
+
+-- src/columns.rt:33:15
+difference-requires : tie.Need-difference-requires
+difference-requires c κs = search needs
+
+-- src/columns.rt:33:5
+floor-div-requires : tie.Need-floor-div-requires
+floor-div-requires c κs = search needs
+
+-- src/columns.rt:29:1
+returns : tie.Need-returns
+returns c =
+    let s = c .before .before in
+    toZ-ofZ w32 (c .floor-div .result) record { sfits = c .floor-div .ok }
+    ∙ c .floor-div .ensures
+    ∙ ap (λ (z : ℤ). floorZ z 32768) (toZ-ofZ w32 (c .before .difference .result) record { sfits = c .before .difference .ok } ∙ c .before .difference .ensures)
+    ∙ sym (mass-sub (s .args .e) (s .args .k) (s .args .t) (s .args .ktof))
+
+pub mass-column-spec : {M : Type 1} → statement M
+mass-column-spec =
+    tie.close
+    (tie.spec
+    add-difference
+    add-difference-2
+    mul-difference
+    add-difference-3
+    mul-difference-2
+    difference-requires
+    floor-div-requires
+    returns)

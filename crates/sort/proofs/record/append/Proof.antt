@@ -1,0 +1,22 @@
+use Prim.Native.Nat.{ℕ}
+use mathlib.Core.Path.{ap, _∙_}
+use native.Mathlib.Nat.{mod-eq-of-lt}
+use lib.Bits.{bitOr, or-shifted}
+use borrow.Author.Needs.{needs}
+use Rattle.sort.proofs.record.append.Statement.{statement}
+use Rattle.sort.proofs.record.append.Tie as tie
+use Rattle.sort.proofs.record.append.Reads as reads
+use Rattle.sort.proofs.record.append.Lts as lts
+
+-- src/record.rt:33:6
+shl-result : tie.Need-shl-result
+shl-result c = search needs
+
+-- src/record.rt:29:1
+returns : tie.Need-returns
+returns c =
+    let a = c .args in
+    ap (λ (n : ℕ). bitOr n (a .field)) (mod-eq-of-lt (c .pre .1)) ∙ or-shifted (a .x) (a .bits) (a .field) (c .pre .2)
+
+pub append-spec : {M : Type 1} → statement M
+append-spec = tie.close (tie.spec shl-result returns)

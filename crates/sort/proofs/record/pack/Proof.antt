@@ -1,0 +1,114 @@
+use Rattle.sort.specs.Record.{recordOf}
+use borrow.Author.Needs.{needs}
+use Rattle.sort.proofs.record.pack.Statement.{statement}
+use Rattle.sort.proofs.record.pack.Tie as tie
+use Rattle.sort.proofs.record.pack.Reads as reads
+use Rattle.sort.proofs.record.pack.Lts as lts
+use Rattle.sort.proofs.record.append.Reads as append-reads
+use Rattle.sort.proofs.record.bit.Reads as bit-reads
+
+-- src/record.rt:48:20
+cast-append : tie.Need-cast-append
+cast-append c = search needs
+
+-- src/record.rt:48:46
+cast-append-2 : tie.Need-cast-append-2
+cast-append-2 c = search needs
+
+-- src/record.rt:48:9
+append-requires : tie.Need-append-requires
+append-requires c κs = search needs
+
+-- src/record.rt:49:26
+bit-requires : tie.Need-bit-requires
+bit-requires c κs = search needs
+
+-- src/record.rt:49:9
+append-requires-2 : tie.Need-append-requires-2
+append-requires-2 c κs = search needs
+
+-- src/record.rt:50:26
+bit-requires-2 : tie.Need-bit-requires-2
+bit-requires-2 c κs = search needs
+
+-- src/record.rt:50:9
+append-requires-3 : tie.Need-append-requires-3
+append-requires-3 c κs = search needs
+
+-- src/record.rt:51:26
+bit-requires-3 : tie.Need-bit-requires-3
+bit-requires-3 c κs = search needs
+
+-- src/record.rt:51:9
+append-requires-4 : tie.Need-append-requires-4
+append-requires-4 c κs = search needs
+
+-- src/record.rt:52:26
+bit-requires-4 : tie.Need-bit-requires-4
+bit-requires-4 c κs = search needs
+
+-- src/record.rt:52:9
+append-requires-5 : tie.Need-append-requires-5
+append-requires-5 c κs = search needs
+
+-- src/record.rt:53:33
+cast-append-3 : tie.Need-cast-append-3
+cast-append-3 c = search needs
+
+-- src/record.rt:53:9
+append-requires-6 : tie.Need-append-requires-6
+append-requires-6 c κs = search needs
+
+-- src/record.rt:54:18
+bit-requires-5 : tie.Need-bit-requires-5
+bit-requires-5 c κs = search needs
+
+-- src/record.rt:54:5
+append-requires-7 : tie.Need-append-requires-7
+append-requires-7 c κs = search needs
+
+-- src/record.rt:44:1
+returns : tie.Need-returns
+unfolding recordOf
+returns c =
+    let c6 = c .before .before in
+    let c5 = c6 .before .before in
+    let c4 = c5 .before .before in
+    let c3 = c4 .before .before in
+    let c2 = c3 .before .before in
+    let c1 = c2 .before .before in
+    simp (
+      c .append7 .ensures,
+      c .before .bit5 .ensures .0,
+      c6 .append6 .ensures,
+      c5 .append5 .ensures,
+      c5 .before .bit4 .ensures .0,
+      c4 .append4 .ensures,
+      c4 .before .bit3 .ensures .0,
+      c3 .append3 .ensures,
+      c3 .before .bit2 .ensures .0,
+      c2 .append2 .ensures,
+      c2 .before .bit .ensures .0,
+      c1 .append .ensures,
+    )
+
+pub pack-spec : {M : Type 1} → statement M
+pack-spec =
+    tie.close
+    (tie.spec
+    cast-append
+    cast-append-2
+    append-requires
+    bit-requires
+    append-requires-2
+    bit-requires-2
+    append-requires-3
+    bit-requires-3
+    append-requires-4
+    bit-requires-4
+    append-requires-5
+    cast-append-3
+    append-requires-6
+    bit-requires-5
+    append-requires-7
+    returns)

@@ -1,0 +1,94 @@
+use Rattle.sort.specs.declared.columns.Column.the-variants.{Inside}
+use Rattle.sort.specs.declared.sorting.Outcome.the-variants.{InCell}
+use Rattle.sort.specs.Columns.{bounded}
+use Rattle.sort.proofs.ColumnLaws.{inside-most}
+use Rattle.sort.proofs.MachineDivision.{bounded-back}
+use mathlib.Core.Path.{_≡_, sym, ap, _∙_}
+use borrow.Author.Needs.{needs}
+use Rattle.sort.proofs.sorting.located.Statement.{statement}
+use Rattle.sort.proofs.sorting.located.Tie as tie
+use Rattle.sort.proofs.sorting.located.Reads as reads
+use Rattle.sort.proofs.sorting.located.Lts as lts
+use Rattle.sort.proofs.columns.bounded.Reads as bounded-reads
+use Rattle.sort.proofs.matrix.cell_at.Reads as cell-at-reads
+
+-- src/sorting.rt:66:9
+bounded-requires : tie.Need-bounded-requires
+bounded-requires c κs = search needs
+
+-- src/sorting.rt:67:24
+enum-known-column : tie.Need-enum-known-column
+enum-known-column c = search needs
+
+-- src/sorting.rt:68:9
+enum-told : tie.Need-enum-told
+enum-told c = search needs
+
+-- src/sorting.rt:68:9
+returns : tie.Need-returns
+returns c =
+    let b = c .before .before in
+    let s = b .before .before in
+    rw (bounded-back (s .args .mass) _ _ (s .fits .mass) (b .bounded .ensures) (c .enum-told .given .1))
+
+-- what is known of each column where it is inside
+mass-is : (k : tie.After-known-told)
+    → bounded (k .before .before .before .before .before .args .mass) ≡ Inside (k .before .column .given .0 .0)
+mass-is k =
+    let b = k .before .before .before in
+    let s = b .before .before in
+    bounded-back (s .args .mass) _ _ (s .fits .mass) (b .bounded .ensures) (k .before .column .given .1)
+
+energy-is : (k : tie.After-known-told2)
+    → bounded (k .before .before .before .before .before .before .before .before .before .args .energy) ≡ Inside (k .before .row .given .0 .0)
+energy-is k =
+    let b = k .before .before .before in
+    let s = b .before .before .before .before .before .before in
+    bounded-back (s .args .energy) _ _ (s .fits .energy) (b .bounded2 .ensures) (k .before .row .given .1)
+
+-- src/sorting.rt:70:9
+bounded-requires-2 : tie.Need-bounded-requires-2
+bounded-requires-2 c κs = search needs
+
+-- src/sorting.rt:71:24
+enum-known-row : tie.Need-enum-known-row
+enum-known-row c = search needs
+
+-- src/sorting.rt:72:9
+enum-told-2 : tie.Need-enum-told-2
+enum-told-2 c = search needs
+
+-- src/sorting.rt:72:9
+returns-2 : tie.Need-returns-2
+returns-2 c =
+    let b = c .before .before in
+    let s = b .before .before .before .before .before .before in
+    rw (mass-is (b .before), bounded-back (s .args .energy) _ _ (s .fits .energy) (b .bounded2 .ensures) (c .enum-told2 .given .1))
+
+-- src/sorting.rt:74:27
+cell-at-requires : tie.Need-cell-at-requires
+cell-at-requires c κs =
+    let k = c .before .before .before .before in
+    let s = k .before .before .before .before .before in
+    (s .pre, (inside-most (s .args .mass) _ (mass-is k), inside-most (s .args .energy) _ (energy-is c)))
+
+-- src/sorting.rt:62:1
+returns-3 : tie.Need-returns-3
+returns-3 c =
+    let k = c .before .before .before .before .before in
+    rw (mass-is k, energy-is (c .before)) (ap (InCell (k .before .before .before .before .before .args .gain)) (c .cell-at .ensures))
+
+pub located-spec : {M : Type 1} → statement M
+located-spec =
+    tie.close
+    (tie.spec
+    bounded-requires
+    enum-known-column
+    enum-told
+    returns
+    bounded-requires-2
+    enum-known-row
+    enum-told-2
+    returns-2
+    cell-at-requires
+    returns-3)

@@ -1,0 +1,41 @@
+use mathlib.Core.Path.{_∙_}
+use denote.Ref.{now}
+use mir.Syntax.{w32}
+use mir.ValLaws.{toZ-ofZ}
+use Rattle.sort.specs.Columns.{bounded}
+use Rattle.sort.specs.Sorting.{located, placed}
+use borrow.Author.Needs.{needs}
+use Rattle.sort.proofs.sorting.placed.Statement.{statement}
+use Rattle.sort.proofs.sorting.placed.Tie as tie
+use Rattle.sort.proofs.sorting.placed.Reads as reads
+use Rattle.sort.proofs.sorting.placed.Lts as lts
+use Rattle.sort.proofs.columns.energy_column.Reads as energy-column-reads
+use Rattle.sort.proofs.columns.mass_column.Reads as mass-column-reads
+use Rattle.sort.proofs.sorting.located.Reads as located-reads
+
+-- src/sorting.rt:83:9
+mass-column-requires : tie.Need-mass-column-requires
+mass-column-requires c κs = search needs
+
+-- src/sorting.rt:84:9
+energy-column-requires : tie.Need-energy-column-requires
+energy-column-requires c κs = search needs
+
+-- src/sorting.rt:85:5
+located-requires : tie.Need-located-requires
+located-requires c κs = search needs
+
+-- src/sorting.rt:78:1
+returns : tie.Need-returns
+unfolding placed
+returns c =
+    let m = c .before .before .mass-column in
+    let n = c .before .energy-column in
+    let s = c .before .before .before .before in
+    let em = toZ-ofZ w32 (m .result) record { sfits = m .ok } ∙ m .ensures in
+    let en = toZ-ofZ w32 (n .result) record { sfits = n .ok } ∙ n .ensures in
+    c .located .ensures ∙ (λ i. located (s .args .gain) (bounded (em i)) (bounded (en i)) (now (s .args .matrix)))
+
+pub placed-spec : {M : Type 1} → statement M
+placed-spec =
+    tie.close (tie.spec mass-column-requires energy-column-requires located-requires returns)

@@ -1,0 +1,29 @@
+-- The two columns (document 01, "One event", rules 3 and 4). Assumes nothing.
+use mathlib.Core.Bool.{Bool, cond}
+use Prim.Native.Nat.{ℕ, _/_}
+use lib.Dec.{leb}
+use lib.IntN.{ℤ, pos, negsuc, _+ℤ_, _-ℤ_, _*ℤ_}
+use Rattle.sort.specs.declared.columns.Column.{Column}
+use Rattle.sort.specs.declared.columns.Column.the-variants.{Inside, Outside}
+
+-- "Floor goes towards minus infinity": -(a + 1) is negsuc a, and its quotient is -(a / d + 1)
+abbrev pub floorZ : ℤ → ℕ → ℤ
+floorZ (pos a) d = pos (a / d)
+floorZ (negsuc a) d = negsuc (a / d)
+
+-- "u = E − K + T − Ktof + 65,536"
+abbrev pub uOf : (e k t ktof : ℕ) → ℤ
+uOf e k t ktof = pos e -ℤ pos k +ℤ pos t -ℤ pos ktof +ℤ pos 65536
+
+-- "f_m = floor(9u / 32,768)". Other files go by the laws of this name alone
+unfoldable pub massColumn : ℤ → ℤ
+massColumn u = floorZ (pos 9 *ℤ u) 32768
+
+-- "f_e = floor((Ktof + 360,448 − T) / 4,096)"
+unfoldable pub energyColumn : (t ktof : ℕ) → ℤ
+energyColumn t ktof = floorZ (pos ktof +ℤ pos 360448 -ℤ pos t) 4096
+
+-- rule 4: a column from 0 to 127 is inside the matrix
+unfoldable pub bounded : ℤ → Column
+bounded (pos a) = cond (leb a 127) (Inside a) Outside
+bounded (negsuc a) = Outside

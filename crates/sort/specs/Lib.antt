@@ -1,0 +1,6 @@
+pub mod Event
+pub mod Columns
+pub mod Matrix
+pub mod Sorting
+pub mod Counts
+pub mod Record

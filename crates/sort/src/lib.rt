@@ -1,0 +1,7 @@
+// One event: its fields, its two columns, its matrix cell, the boxes it counts in and its sample record.
+pub mod columns;
+pub mod counts;
+pub mod event;
+pub mod matrix;
+pub mod record;
+pub mod sorting;
