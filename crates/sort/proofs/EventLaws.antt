@@ -2,24 +2,25 @@
 use mathlib.Core.Path.{_≡_, refl}
 use mathlib.Core.Bool.{Bool, true, false, _&&_, cond}
 use mathlib.Core.List.{List}
-use Prim.Native.Nat.{ℕ, _+_, _*_, _%_, _≤_}
+use Prim.Native.Nat.{ℕ, _+_, _*_, _%_, _≤_, _<_}
 use lib.ListN.{getD}
 use native.Mathlib.Omega.{arith}
-use lib.Dec.{leb}
-use borrow.Author.Tests.{leb-true}
+use lib.Dec.{leb, ltb}
+use borrow.Author.Tests.{leb-true, ltb-false}
 use Rattle.wire.proofs.Lists.{and-split}
 use Rattle.settings.specs.declared.Settings.{Settings}
 use Rattle.sort.specs.declared.columns.Column.{Column}
 use Rattle.sort.specs.declared.columns.Column.the-variants.{Inside, Outside}
 use Rattle.sort.specs.declared.event.Event.{Event}
 use Rattle.sort.specs.declared.sorting.Outcome.{Outcome}
-use Rattle.sort.specs.declared.sorting.Outcome.the-variants.{Discarded}
+use Rattle.sort.specs.declared.sorting.Outcome.the-variants.{Discarded, OutOfBounds, InCell}
 use Rattle.sort.specs.declared.sorting.Words.{Words}
 use Rattle.sort.specs.Columns.{uOf, massColumn, energyColumn, bounded}
-use Rattle.sort.specs.Event.{inRange, gainOf}
+use Rattle.sort.specs.Event.{inRange, gainOf, channelOf}
 use Rattle.sort.specs.Matrix.{boxUsed, beaconUsed, matrixOf, cellOf}
 use Rattle.sort.specs.Sorting.{discards, wordsOf, located, placed, outcomeOf}
 use Rattle.sort.specs.Counts.{CellNames, OutcomeNames}
+use Rattle.sort.specs.Samples.{boxOf}
 
 -- the fields of an event in range
 pub in-range : (e : Event) → inRange e ≡ true → (e .t ≤ 511) × (e .high ≤ 4095) × (e .low ≤ 2047)
@@ -27,6 +28,14 @@ in-range e h =
     let p = and-split (leb (e .t) 511 && leb (e .high) 4095) (leb (e .low) 2047) h in
     let q = and-split (leb (e .t) 511) (leb (e .high) 4095) (p .0) in
     (leb-true _ _ (q .0), leb-true _ _ (q .1), leb-true _ _ (p .1))
+
+-- the channel used has 11 bits
+pub channel-fits : (e : Event) → inRange e ≡ true → channelOf e < 2048
+channel-fits e h = go (gainOf e) refl
+  where
+    go : (t : Bool) → ltb 2047 (e .high) ≡ t → cond t (e .low) (e .high) < 2048
+    go true q = omega (arith, in-range e h)
+    go false q = omega (arith, ltb-false 2047 (e .high) q)
 
 -- a cell names a box from 7 to 116 and at most beacon 12
 pub box-used : (b : ℕ) → (7 ≤ boxUsed b) × (boxUsed b ≤ 116)
@@ -68,3 +77,14 @@ or-discarded false o h = h
 pub outcome-names : (s : Settings) (tables : List ℕ) (e : Event) → OutcomeNames (outcomeOf s tables e)
 unfolding outcomeOf
 outcome-names s tables e = or-discarded (discards s e) _ (placed-names (gainOf e) (wordsOf tables e) (matrixOf tables))
+
+-- an outcome's box is from 5 to 116
+pub box-from : (o : Outcome) → OutcomeNames o → 5 ≤ boxOf o
+box-from Discarded h = omega arith
+box-from (OutOfBounds gain) h = omega arith
+box-from (InCell gain cell) h = omega (arith, h)
+
+pub box-fits : (o : Outcome) → OutcomeNames o → boxOf o ≤ 116
+box-fits Discarded h = omega arith
+box-fits (OutOfBounds gain) h = omega arith
+box-fits (InCell gain cell) h = h .1

@@ -1,5 +1,7 @@
+pub mod Cases
 pub mod ColumnLaws
 pub mod CountLaws
 pub mod EventLaws
 pub mod MachineDivision
 pub mod RecordLaws
+pub mod SampleLaws

@@ -4,3 +4,4 @@ pub mod Matrix
 pub mod Sorting
 pub mod Counts
 pub mod Record
+pub mod Samples

@@ -1,16 +1,17 @@
 -- Laws of the tests and counts on lists. Assumes nothing.
-use mathlib.Core.Path.{_≡_, refl, ap, _∙_}
+use mathlib.Core.Path.{_≡_, refl, sym, ap, _∙_}
 use mathlib.Core.Bool.{Bool, true, false, _&&_, false≢true}
-use mathlib.Core.List.{List, [], _∷_}
-use Prim.Native.Nat.{ℕ, zero, suc, _+_, _≤_, _<_}
+use mathlib.Core.List.{List, [], _∷_, _++_}
+use Prim.Native.Nat.{ℕ, zero, suc, _+_, _≤_, _<_, suc-le-suc}
+use native.Mathlib.Nat.{le-refl, le-trans, le-suc}
 use native.Mathlib.Numerals.{add-one}
 use native.Mathlib.Omega.{arith}
-use lib.ListN.{length, drop, getD, set, drop-of-length-le}
+use lib.ListN.{length, drop, getD, set, replicate, drop-of-length-le}
 use lib.Seq.{drop-cons, getD-set-same, getD-set-other, set-out}
 use borrow.Author.Tests.{leb-true, le-leb}
 use lib.Dec.{leb}
 use native.Mathlib.Decide.{ℕ-discrete, decLt}
-use Rattle.wire.specs.Lists.{all, atMost, EachBelow, bump}
+use Rattle.wire.specs.Lists.{all, atMost, EachBelow, bump, joinIf, keep}
 
 module _ {A : Type 0} (p : A → Bool) (xs : List A) (d : A) where
   -- the test fails at i
@@ -73,3 +74,34 @@ each-bump n xs i b k = go (ℕ-discrete k i) (decLt i (length xs))
     go (no d) e = rw (getD-set-other xs i k (getD xs i 0 + 1) 0 d) (omega (arith, b k))
     go (yes q) (yes h) = rw (q, getD-set-same xs i (getD xs i 0 + 1) 0 h) (omega (arith, b i))
     go (yes q) (no h) = rw (set-out xs i (getD xs i 0 + 1) (omega arith)) (omega (arith, b k))
+
+-- zeros are below any bound
+pub each-zeros : (b n : ℕ) → 0 < b → EachBelow b (replicate n 0)
+each-zeros b zero h k = h
+each-zeros b (suc n) h zero = h
+each-zeros b (suc n) h (suc k) = each-zeros b n h k
+
+-- ---- the elements that pass a test
+
+module _ {A : Type 0} where
+  join-append : (b : Bool) (x : A) (l m : List A) → joinIf b x l ++ m ≡ joinIf b x (l ++ m)
+  join-append true x l m = refl
+  join-append false x l m = refl
+
+  pub keep-append : (p : A → Bool) (l m : List A) → keep p (l ++ m) ≡ keep p l ++ keep p m
+  unfolding keep
+  keep-append p [] m = refl
+  keep-append p (x ∷ xs) m = ap (joinIf (p x) x) (keep-append p xs m) ∙ sym (join-append (p x) x (keep p xs) (keep p m))
+
+  pub keep-one : (p : A → Bool) (e : A) → keep p (e ∷ []) ≡ joinIf (p e) e []
+  unfolding keep
+  keep-one p e = refl
+
+  join-length : (b : Bool) (x : A) (l : List A) {n : ℕ} → length l ≤ n → length (joinIf b x l) ≤ suc n
+  join-length true x l h = suc-le-suc h
+  join-length false x l h = le-trans h (le-suc _)
+
+  pub length-keep : (p : A → Bool) (l : List A) → length (keep p l) ≤ length l
+  unfolding keep
+  length-keep p [] = le-refl 0
+  length-keep p (x ∷ xs) = join-length (p x) x (keep p xs) (length-keep p xs)

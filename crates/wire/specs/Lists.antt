@@ -21,3 +21,12 @@ EachBelow n xs = (k : ℕ) → getD xs k 0 < n
 -- one more at index i
 abbrev pub bump : List ℕ → ℕ → List ℕ
 bump xs i = set xs i (getD xs i 0 + 1)
+
+abbrev pub joinIf : {A : Type 0} → Bool → A → List A → List A
+joinIf true x l = x ∷ l
+joinIf false x l = l
+
+-- the elements that pass the test, in order
+unfoldable pub keep : {A : Type 0} → (A → Bool) → List A → List A
+keep p [] = []
+keep p (x ∷ xs) = joinIf (p x) x (keep p xs)

@@ -1,0 +1,45 @@
+// The sample slots that the caller lends.
+ghost use mathlib.Core.Path.{_≡_};
+ghost use Prim.Native.Nat.{_≤_};
+ghost use lib.ListN.{length};
+ghost use Rattle.sort.specs.Samples.{placeOf, slotsAfter, placedAfter};
+
+// How many slots hold a record, and how many of them a later event replaced.
+pub struct Placed {
+    pub used: usize,
+    pub replaced: usize,
+}
+
+// A record, as a 32-bit word, goes into the first free slot. When none is free, one of priority 1 goes into the next slot to
+// replace, as long as LIMHI allows it. Any other drops out.
+pub fn place(
+    slots: &mut [u32],
+    used: usize,
+    replaced: usize,
+    limhi: usize,
+    word: u32,
+    priority: bool,
+) -> Placed
+    requires { ⌜ limhi ≤ length (now slots) ⌝ }
+    ensures slots { λ r. ⌜ now (slots .exit) ≡ slotsAfter (placeOf (length (now (slots .entry))) used replaced limhi priority) (now (slots .entry)) used replaced word ⌝ }
+    ensures placed { λ r. ⌜ r ≡ placedAfter (placeOf (length (now (slots .entry))) used replaced limhi priority) used replaced ⌝ }
+{
+    let count = slots.len();
+    if used < count {
+        slots[used] = word;
+        return Placed {
+            used: used + 1,
+            replaced,
+        };
+    }
+    if priority {
+        if replaced < limhi {
+            slots[replaced] = word;
+            return Placed {
+                used,
+                replaced: replaced + 1,
+            };
+        }
+    }
+    Placed { used, replaced }
+}
