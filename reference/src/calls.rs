@@ -1,0 +1,105 @@
+//! The records of a stream: calls as `minute` and `replay` read them.
+
+use std::io::{Error, ErrorKind, Read, Result};
+
+use crate::commands::LINE_BYTES;
+use crate::sorting::Event;
+
+#[derive(Clone, Copy, PartialEq, Eq)]
+pub enum Form {
+    Minute,
+    Replay,
+}
+
+pub enum Call {
+    Event(Event),
+    Reading([u16; 8]),
+    Line(Vec<u8>),
+    Close(u32),
+    Package(Vec<u8>),
+    Packet(Vec<u8>),
+}
+
+/// Reads one record: none where the input stops before a kind byte, an error for an
+/// unknown kind or a short body.
+pub fn read(input: &mut impl Read, form: Form) -> Result<Option<Call>> {
+    let Ok([kind]) = bytes(input) else {
+        return Ok(None);
+    };
+    let call = match (kind, form) {
+        (1, _) => Call::Event(event(bytes(input)?)),
+        (2, _) => Call::Reading(reading(bytes(input)?)),
+        (3, Form::Minute) => Call::Line(zero_filled(bytes(input)?)),
+        (3, Form::Replay) => Call::Line(counted(input)?),
+        (4, _) => Call::Close(u32::from_be_bytes(bytes(input)?)),
+        (5, Form::Replay) => Call::Package(counted(input)?),
+        (6, Form::Replay) => Call::Packet(counted(input)?),
+        _ => return Err(Error::from(ErrorKind::InvalidData)),
+    };
+    Ok(Some(call))
+}
+
+fn bytes<const N: usize>(input: &mut impl Read) -> Result<[u8; N]> {
+    let mut body = [0; N];
+    input.read_exact(&mut body)?;
+    Ok(body)
+}
+
+fn event(b: [u8; 7]) -> Event {
+    let two = |i| u16::from_be_bytes([b[i], b[i + 1]]);
+    Event { t: two(0), high: two(2), low: two(4), flags: b[6] }
+}
+
+fn reading(b: [u8; 16]) -> [u16; 8] {
+    std::array::from_fn(|i| u16::from_be_bytes([b[2 * i], b[2 * i + 1]]))
+}
+
+/// A line ends before its first zero byte.
+fn zero_filled(body: [u8; LINE_BYTES]) -> Vec<u8> {
+    body.into_iter().take_while(|byte| *byte != 0).collect()
+}
+
+/// A 16-bit length, then as many bytes.
+fn counted(input: &mut impl Read) -> Result<Vec<u8>> {
+    let mut body = vec![0; u16::from_be_bytes(bytes(input)?) as usize];
+    input.read_exact(&mut body)?;
+    Ok(body)
+}
+
+/// Writes one record; false, and nothing written, if the form has no such record.
+pub fn write(call: &Call, form: Form, stream: &mut Vec<u8>) -> bool {
+    let minute = form == Form::Minute;
+    match call {
+        Call::Event(e) => {
+            stream.push(1);
+            for field in [e.t, e.high, e.low] {
+                stream.extend(field.to_be_bytes());
+            }
+            stream.push(e.flags);
+        }
+        Call::Reading(counts) => {
+            stream.push(2);
+            stream.extend(counts.iter().flat_map(|count| count.to_be_bytes()));
+        }
+        Call::Line(line) if minute && line.len() <= LINE_BYTES => {
+            stream.push(3);
+            stream.extend(line);
+            stream.resize(stream.len() + LINE_BYTES - line.len(), 0);
+        }
+        Call::Close(time) => {
+            stream.push(4);
+            stream.extend(time.to_be_bytes());
+        }
+        Call::Line(body) if !minute => write_counted(3, body, stream),
+        Call::Package(body) if !minute => write_counted(5, body, stream),
+        Call::Packet(body) if !minute => write_counted(6, body, stream),
+        _ => return false,
+    }
+    true
+}
+
+fn write_counted(kind: u8, body: &[u8], stream: &mut Vec<u8>) {
+    stream.push(kind);
+    stream.extend((body.len() as u16).to_be_bytes());
+    stream.extend(body);
+}

@@ -1,0 +1,32 @@
+//! Document 01, "Causes and their numbers".
+
+/// The number a call answers with.
+pub type Number = u8;
+
+pub const DONE: Number = 0;
+/// A lent buffer of another length.
+pub const BUFFER: Number = 1;
+/// An event field over its range.
+pub const FIELD: Number = 2;
+/// An event after 1,000,000 events, a reading after 60 readings.
+pub const FULL: Number = 3;
+/// A line over 80 bytes, or with a byte outside 32 to 126.
+pub const LINE: Number = 4;
+/// An unknown keyword or a wrong argument.
+pub const COMMAND: Number = 5;
+/// A load waits.
+pub const LOAD_WAITS: Number = 6;
+/// 32 commands were accepted in this frame.
+pub const COMMANDS_FULL: Number = 7;
+/// A package with no N, N below 2 or N not matching the bytes.
+pub const PACKAGE: Number = 8;
+/// A package that passes staging's end.
+pub const STAGING_END: Number = 9;
+/// A package whose sum is wrong.
+pub const PACKAGE_SUM: Number = 10;
+/// A packet that is not 272 bytes long or has none of the headers.
+pub const HEADER: Number = 11;
+/// A packet whose sum is wrong.
+pub const PACKET_SUM: Number = 12;
+/// A packet whose body has a fault.
+pub const BODY: Number = 13;

@@ -1,0 +1,149 @@
+//! Packets for the reader: damaged ones, and changed ones that are still lawful.
+
+use crate::generate::Random;
+use crate::packets::*;
+
+type Bytes = [u8; PACKET_BYTES];
+
+/// Codes that some count has, and codes that none has.
+const CODES: [u16; 10] = [0, 1, 0x07FF, 0x0800, 0x0FFF, 0x1800, 0x1FFF, 0x2800, 0xC800, 0xCFFF];
+const WRONG_CODES: [u16; 12] =
+    [0x1000, 0x1001, 0x17FF, 0x2000, 0x27FF, 0xC000, 0xC7FF, 0xD000, 0xD7FF, 0xD800, 0xF800, 0xFFFF];
+
+/// The packet changed somehow: most of these are refused, by 11, 12 or 13.
+pub fn changed(random: &mut Random, mut packet: Bytes) -> Vec<u8> {
+    match random.below(12) {
+        0 => return wrong_length(random, packet),
+        1 => {
+            let at = random.below(PACKET_BYTES);
+            packet[at] ^= random.between(1, 255) as u8;
+            return packet.to_vec();
+        }
+        2 | 3 => header_fault(random, &mut packet),
+        4 => {
+            // Two faults: the lower number counts.
+            body_fault(random, &mut packet);
+            if random.percent(50) {
+                header_fault(random, &mut packet);
+            }
+            let error = random.between(1, 255) as u8;
+            packet[271] = packet_sum(&packet).wrapping_add(error);
+            return packet.to_vec();
+        }
+        5 | 6 => lawful_change(random, &mut packet),
+        _ => body_fault(random, &mut packet),
+    }
+    packet[271] = packet_sum(&packet);
+    packet.to_vec()
+}
+
+fn wrong_length(random: &mut Random, packet: Bytes) -> Vec<u8> {
+    let mut packet = packet.to_vec();
+    let any = random.below(PACKET_BYTES);
+    packet.resize(random.pick(&[0, 1, 10, 11, 270, 271, 273, 544, any]), 0);
+    packet
+}
+
+fn header_fault(random: &mut Random, packet: &mut Bytes) {
+    let other = random.pick(&[604, 617, 618, 623, 625, 594, 0, 2_047]);
+    match random.below(9) {
+        0 => packet[0] ^= 0x20 << random.below(3),          // version
+        1 => packet[0] ^= 0x10,                             // type
+        2 => packet[0] ^= 0x08,                             // secondary flag
+        3 | 4 => put(packet, 0, 1 << 11 | other),           // application number
+        5 => packet[2] ^= random.pick(&[0x40, 0x80, 0xC0]), // sequence flags
+        6 => put(packet, 4, random.pick(&[0, 264, 266, 265 + 256, 0xFFFF])),
+        7 => packet[10] = random.pick(&[1, 128, 255]),
+        _ => put(packet, 0, 1 << 11 | random.pick(&[605, 606, 610, 616, 624])), // another kind
+    }
+}
+
+fn body_fault(random: &mut Random, packet: &mut Bytes) {
+    let some = random.pick(&[1, 2, 16, 128, 255]);
+    match number(packet) {
+        RATE => match random.below(8) {
+            0..=2 => wrong_code(random, packet, 124),
+            3 => packet[259] = some,
+            4 => packet[261] |= 1 << random.below(4),
+            5 => packet[random.pick(&[269, 270])] = some,
+            6 => put(packet, 262, 705),
+            _ => put(packet, 262, random.between(705, 65_535) as u16),
+        },
+        BEACON => match random.below(4) {
+            0 => wrong_code(random, packet, 12),
+            1 => packet[random.pick(&[35, 266, 269, 270])] = some,
+            _ => packet[random.between(35, 266) as usize] = some,
+        },
+        _ => match random.below(6) {
+            0 => packet[269] = packet[269].wrapping_add(some),
+            1 => put(packet, 0, 1 << 11 | random.between(606, 616) as u16),
+            2 => packet[270] = some,
+            _ => {
+                let any = random.between(117, 127) as u32;
+                let b = random.pick(&[0, 1, 5, 117, 127, any]);
+                put_record(random, packet, b);
+            }
+        },
+    }
+}
+
+/// Any sequence count, time and frame; other rates, settings and records.
+fn lawful_change(random: &mut Random, packet: &mut Bytes) {
+    if random.percent(50) {
+        let any = random.bits().to_be_bytes();
+        packet[2] = 0xC0 | any[0];
+        packet[3] = any[1];
+        packet[6..10].copy_from_slice(&any[2..6]);
+        packet[267..269].copy_from_slice(&any[6..]);
+    }
+    match number(packet) {
+        RATE => {
+            packet[260] = random.byte();
+            packet[261] = random.byte() & 0xF0;
+            put(packet, 262, if random.percent(50) { 704 } else { random.between(0, 704) as u16 });
+            packet[264..267].copy_from_slice(&random.bits().to_be_bytes()[..3]);
+            (0..random.below(30)).for_each(|_| lawful_code(random, packet, 124));
+        }
+        BEACON => (0..random.below(5)).for_each(|_| lawful_code(random, packet, 12)),
+        _ => {
+            for _ in 0..random.below(30) {
+                let any = random.between(6, 116) as u32;
+                let b = random.pick(&[6, 7, 8, 116, any]);
+                put_record(random, packet, b);
+            }
+            if random.percent(20) {
+                packet[11..267].fill(0);
+            }
+        }
+    }
+}
+
+fn wrong_code(random: &mut Random, packet: &mut Bytes, codes: usize) {
+    let s = random.between(1, 12) as u16;
+    let any = 4_096 * s + random.below(2_048) as u16;
+    let place = 11 + 2 * random.below(codes);
+    put(packet, place, if random.percent(30) { any } else { random.pick(&WRONG_CODES) });
+}
+
+fn lawful_code(random: &mut Random, packet: &mut Bytes, codes: usize) {
+    let s = random.between(0, 12) as u16;
+    let any = 4_096 * s + random.between(2_048, 4_095) as u16;
+    let place = 11 + 2 * random.below(codes);
+    put(packet, place, if random.percent(70) { any } else { random.pick(&CODES) });
+}
+
+/// A record of box b, not zero, in some place.
+fn put_record(random: &mut Random, packet: &mut Bytes, b: u32) {
+    let other_bits = if random.percent(20) { 1 } else { random.bits() as u32 | 1 };
+    let record = other_bits & !(127 << 1) | b << 1;
+    let place = 11 + 4 * random.below(64);
+    packet[place..place + 4].copy_from_slice(&record.to_be_bytes());
+}
+
+fn number(packet: &Bytes) -> u16 {
+    u16::from_be_bytes([packet[0], packet[1]]) % 2_048
+}
+
+fn put(packet: &mut Bytes, at: usize, value: u16) {
+    packet[at..at + 2].copy_from_slice(&value.to_be_bytes());
+}

@@ -1,0 +1,14 @@
+//! A seeded generator of streams for `replay` and `minute`: realistic and wild tables,
+//! and calls that are right and wrong in every way document 01 names. The same seed
+//! gives the same bytes on every machine.
+
+pub mod damage;
+pub mod flight;
+pub mod lines;
+pub mod random;
+pub mod stories;
+pub mod stream;
+pub mod wild;
+
+pub use random::Random;
+pub use stream::Stream;

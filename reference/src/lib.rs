@@ -1,0 +1,26 @@
+//! The ion telescope event processor and packet reader of document 01, a second time:
+//! plain Rust over the standard library, written from the papers alone and sharing no
+//! code with the proved one, so that the two can be compared byte for byte.
+//!
+//! "Document 01" is the scope paper; "000" the SIT description; "001" the operations manual.
+
+pub mod causes;
+pub mod tables;
+
+pub mod samples;
+pub mod sorting;
+
+pub mod codes;
+pub mod packets;
+pub mod reader;
+
+pub mod commands;
+pub mod loads;
+
+pub mod processor;
+pub mod station;
+
+pub mod calls;
+pub mod programs;
+
+pub mod generate;

@@ -1,0 +1,465 @@
+//! The five processor calls of document 01 over one state. Each answers with a number,
+//! 0 when it was carried out; the buffers are lent to each call.
+
+use crate::causes::*;
+use crate::commands::*;
+use crate::loads::*;
+use crate::packets::*;
+use crate::samples::*;
+use crate::sorting::*;
+use crate::tables::{self, Tables};
+
+pub const MOST_EVENTS: u32 = 1_000_000;
+pub const MOST_READINGS: u32 = 60;
+pub const MOST_COMMANDS: usize = 32;
+
+#[derive(Clone, Copy, Debug)]
+pub struct Processor {
+    pub frame: u16,
+    pub taken: u32,
+    pub counts: Counts,
+    pub samples: Samples,
+    pub readings: u32,
+    pub totals: [u32; 8],
+    pub settings: Settings,
+    /// Commands accepted in this frame.
+    pub accepted: usize,
+    /// Those that wait until close, in order.
+    pub waiting: [Option<Command>; MOST_COMMANDS],
+    pub waits: usize,
+    pub load_waits: bool,
+    pub addresses: Addresses,
+}
+
+/// What close returns; all zero if it is refused.
+#[derive(Clone, Copy, Debug)]
+pub struct Closed {
+    pub number: Number,
+    pub taken: u32,
+    pub counts: Counts,
+    pub filled: usize,
+}
+
+impl Processor {
+    /// "Fresh".
+    pub const FRESH: Processor = Processor {
+        frame: 0,
+        taken: 0,
+        counts: Counts::ZERO,
+        samples: Samples::NONE,
+        readings: 0,
+        totals: [0; 8],
+        settings: Settings::FRESH,
+        accepted: 0,
+        waiting: [None; MOST_COMMANDS],
+        waits: 0,
+        load_waits: false,
+        addresses: Addresses::ZERO,
+    };
+
+    /// One event.
+    #[inline]
+    pub fn event(&mut self, event: &Event, tables: &[u8], slots: &mut [u32]) -> Number {
+        let (Ok(tables), Ok(slots)) = (<&Tables>::try_from(tables), <&mut Slots>::try_from(slots))
+        else {
+            return BUFFER;
+        };
+        if !event.in_range() {
+            return FIELD;
+        }
+        if self.taken >= MOST_EVENTS {
+            return FULL;
+        }
+        self.taken += 1;
+        let sorted = sort(event, tables, &self.settings);
+        self.counts.count(sorted.as_ref());
+        if let Some(s) = sorted {
+            if eligible(s.b, self.settings.junk) {
+                let record = record(event, &s);
+                self.samples.offer(slots, record, s.priority, self.settings.limhi);
+            }
+        }
+        DONE
+    }
+
+    /// One second reading: eight counts join the eight totals.
+    pub fn reading(&mut self, counts: &[u16; 8]) -> Number {
+        if self.readings >= MOST_READINGS {
+            return FULL;
+        }
+        self.readings += 1;
+        for (total, count) in self.totals.iter_mut().zip(counts) {
+            *total += *count as u32;
+        }
+        DONE
+    }
+
+    /// One command line.
+    pub fn line(&mut self, line: &[u8], echo: &mut [u8]) -> Number {
+        let Ok(echo) = <&mut Echo>::try_from(echo) else {
+            return BUFFER;
+        };
+        if !printable(line) {
+            return LINE;
+        }
+        if line.is_empty() {
+            echo_empty(echo);
+            return DONE;
+        }
+        match self.judge(line) {
+            Ok(command) => {
+                echo_accepted(echo, self.frame, self.accepted, line);
+                self.accept(command);
+                DONE
+            }
+            Err(number) => {
+                echo_refused(echo, line);
+                number
+            }
+        }
+    }
+
+    /// The command of a line that is not empty, or 5, 6 or 7.
+    fn judge(&self, line: &[u8]) -> Result<Command, Number> {
+        let command = command(line, self.addresses.reach).ok_or(COMMAND)?;
+        if self.load_waits && command.is_load() {
+            return Err(LOAD_WAITS);
+        }
+        if self.accepted >= MOST_COMMANDS {
+            return Err(COMMANDS_FULL);
+        }
+        Ok(command)
+    }
+
+    fn accept(&mut self, command: Command) {
+        self.accepted += 1;
+        match command {
+            Command::LoadZero => self.addresses = Addresses::ZERO,
+            Command::LoadAt(address) => self.addresses.next = address,
+            _ => {
+                self.waiting[self.waits] = Some(command);
+                self.waits += 1;
+                self.load_waits |= matches!(command, Command::Load(_));
+            }
+        }
+    }
+
+    /// One load package.
+    pub fn package(&mut self, package: &[u8], staging: &mut [u8], echo: &mut [u8]) -> Number {
+        let (Ok(staging), Ok(echo)) = (<&mut Staging>::try_from(staging), <&mut Echo>::try_from(echo))
+        else {
+            return BUFFER;
+        };
+        if self.load_waits {
+            return LOAD_WAITS;
+        }
+        match self.addresses.place(package, staging) {
+            Ok(p) => {
+                echo_package(echo, p.address, p.bytes, p.received, p.computed);
+                if p.received == p.computed {
+                    DONE
+                } else {
+                    PACKAGE_SUM
+                }
+            }
+            Err(number) => number,
+        }
+    }
+
+    /// Ends the interval: packets from its settings and tables, then the waiting commands
+    /// in order, then counts and slots become zero and the frame number rises.
+    pub fn close(
+        &mut self,
+        time: u32,
+        tables: &mut [u8],
+        staging: &[u8],
+        slots: &mut [u32],
+        output: &mut [u8],
+    ) -> Closed {
+        let (Ok(tables), Ok(staging), Ok(slots), Ok(output)) = (
+            <&mut Tables>::try_from(tables),
+            <&Staging>::try_from(staging),
+            <&mut Slots>::try_from(slots),
+            <&mut [u8; OUTPUT_BYTES]>::try_from(output),
+        ) else {
+            return Closed { number: BUFFER, taken: 0, counts: Counts::ZERO, filled: 0 };
+        };
+        let closed = Closed {
+            number: DONE,
+            taken: self.taken,
+            counts: self.counts,
+            filled: slots.iter().filter(|slot| **slot != 0).count(),
+        };
+        self.write_packets(time, tables, slots, output);
+        for i in 0..self.waits {
+            if let Some(command) = self.waiting[i] {
+                self.run(command, tables, staging);
+            }
+        }
+        slots.fill(0);
+        *self = Processor {
+            frame: self.frame.wrapping_add(1),
+            settings: self.settings,
+            addresses: self.addresses,
+            ..Processor::FRESH
+        };
+        closed
+    }
+
+    /// Rate, samples 0 to 10, beacon.
+    fn write_packets(&self, time: u32, tables: &Tables, slots: &Slots, output: &mut [u8; OUTPUT_BYTES]) {
+        let table_sum = tables::sum(tables);
+        for (k, packet) in output.chunks_exact_mut(PACKET_BYTES).enumerate() {
+            match k {
+                0 => write_rate(
+                    packet,
+                    time,
+                    self.frame,
+                    &self.totals,
+                    &self.counts,
+                    &self.settings,
+                    table_sum,
+                ),
+                12 => write_beacon(packet, time, self.frame, &self.counts),
+                _ => write_sample(packet, time, self.frame, k - 1, slots),
+            }
+        }
+    }
+
+    /// Runs one waiting command.
+    fn run(&mut self, command: Command, tables: &mut Tables, staging: &Staging) {
+        let settings = &mut self.settings;
+        match command {
+            Command::Limhi(value) => settings.limhi = value,
+            Command::Eonly(value) => settings.eonly = value,
+            Command::Toferror(value) => settings.toferror = value,
+            Command::Junk(value) => settings.junk = value,
+            Command::Hv(value) => settings.hv = value,
+            Command::Hvstep(value) => settings.hvstep = value,
+            Command::Load(load) => {
+                load.run(&staging[..self.addresses.reach], tables);
+                self.addresses = Addresses::ZERO;
+            }
+            Command::LoadZero | Command::LoadAt(_) => {} // never waits
+        }
+    }
+}
+
+#[cfg(test)]
+mod tests {
+    use super::*;
+    use crate::station::Station;
+    use crate::tables::{position, set_word, KHI, MATRIX, TABLE_BYTES};
+
+    /// All words zero but the cell that such tables lead to: u = 65,536, so f_m = 18, and
+    /// f_e = 360,448 / 4,096 = 88.
+    fn station(cell: [u8; 3]) -> Station {
+        let mut tables = vec![0; TABLE_BYTES];
+        tables[position(MATRIX + 128 * 18 + 88)..][..3].copy_from_slice(&cell);
+        Station::new(tables).unwrap()
+    }
+
+    const STOP: Event = Event { t: 5, high: 100, low: 0, flags: VALID_STOP };
+    const NO_STOP: Event = Event { flags: 0, ..STOP };
+
+    fn echo(station: &Station) -> String {
+        let text = station.echo.split(|byte| *byte == 0).next().unwrap();
+        String::from_utf8(text.to_vec()).unwrap()
+    }
+
+    fn package(station: &mut Station, bytes: &[u8]) -> Number {
+        let sum: u16 = bytes.iter().map(|byte| *byte as u16).sum();
+        let n = bytes.len() as u16 + 2;
+        station.package(&[&n.to_be_bytes()[..], bytes, &sum.to_be_bytes()].concat())
+    }
+
+    #[test]
+    fn boxes_and_beacons_of_an_interval() {
+        let mut station = station([128 + 60, 12, 99]);
+        station.event(&STOP);
+        station.event(&STOP);
+        station.event(&NO_STOP);
+        station.event(&Event { high: 4_095, ..STOP });
+        let closed = station.close(0);
+        let mut counts = Counts::ZERO;
+        counts.boxes[5] = 1;
+        counts.boxes[3] = 2;
+        counts.boxes[4] = 1;
+        counts.boxes[2] = 3;
+        counts.boxes[60] = 3;
+        counts.beacons[12] = 3;
+        assert_eq!((closed.taken, closed.counts, closed.filled), (4, counts, 3));
+        let closed = station.close(0);
+        assert_eq!((closed.taken, closed.counts, closed.filled), (0, Counts::ZERO, 0));
+    }
+
+    #[test]
+    fn a_beacon_counts_for_box_7_too() {
+        let mut station = station([0, 3, 0]);
+        station.event(&STOP);
+        let closed = station.close(0);
+        assert_eq!([1, 2, 3, 7].map(|b| closed.counts.boxes[b]), [1, 0, 1, 1]);
+        assert_eq!(closed.counts.beacons[3], 1);
+        assert_eq!(closed.filled, 0); // junk is 0
+    }
+
+    #[test]
+    fn fields_over_their_range() {
+        let mut station = station([8, 0, 0]);
+        for wrong in [
+            Event { t: 512, ..STOP },
+            Event { high: 4_096, ..STOP },
+            Event { low: 2_048, ..STOP },
+            Event { flags: 16, ..STOP },
+        ] {
+            assert_eq!(station.event(&wrong), FIELD);
+        }
+        assert_eq!(station.event(&Event { t: 511, high: 4_095, low: 2_047, flags: 15 }), DONE);
+        assert_eq!(station.processor.taken, 1);
+    }
+
+    #[test]
+    fn an_interval_takes_a_million_events() {
+        let mut station = station([8, 0, 0]);
+        for _ in 0..1_000_000 {
+            assert_eq!(station.event(&NO_STOP), DONE);
+        }
+        assert_eq!(station.event(&NO_STOP), FULL);
+        assert_eq!(station.event(&Event { t: 512, ..STOP }), FIELD);
+        let closed = station.close(0);
+        assert_eq!((closed.taken, closed.counts.boxes[5]), (1_000_000, 1_000_000));
+        assert_eq!(station.output[35..37], [0x8F, 0x42]); // box 5 of the rate packet
+        assert_eq!(station.event(&NO_STOP), DONE);
+    }
+
+    #[test]
+    fn an_interval_takes_60_readings() {
+        let mut station = station([8, 0, 0]);
+        for _ in 0..60 {
+            assert_eq!(station.reading(&[65_535, 1, 0, 0, 0, 0, 0, 2]), DONE);
+        }
+        assert_eq!(station.reading(&[1; 8]), FULL);
+        assert_eq!(station.processor.totals, [3_932_100, 60, 0, 0, 0, 0, 0, 120]);
+        station.close(0);
+        assert_eq!(station.reading(&[1; 8]), DONE);
+        assert_eq!(station.processor.totals, [1; 8]);
+    }
+
+    #[test]
+    fn commands_wait_until_close() {
+        let mut station = station([7, 0, 0]);
+        assert_eq!(station.line(b"junk 1"), DONE);
+        assert_eq!(echo(&station), "0000 junk 1\r\nSIT> ");
+        assert_eq!(station.line(b"limhi 2c0"), DONE);
+        assert_eq!(station.line(b"limhi 1"), DONE);
+        assert_eq!(echo(&station), "0002 limhi 1\r\nSIT> ");
+        station.event(&STOP);
+        assert_eq!(station.close(0).filled, 0);
+        assert_eq!(station.output[261..264], [0, 0x01, 0xF4]); // LIMHI 500
+        station.event(&STOP);
+        assert_eq!(station.line(b"hv 0"), DONE);
+        assert_eq!(echo(&station), "0100 hv 0\r\nSIT> ");
+        assert_eq!(station.close(0).filled, 1);
+        assert_eq!(station.output[261..264], [16, 0, 1]);
+    }
+
+    #[test]
+    fn thirty_two_commands_a_frame() {
+        let mut station = station([8, 0, 0]);
+        for i in 0..32 {
+            assert_eq!(station.line(if i % 2 == 0 { b"loadat 0" } else { b"hvstep a" }), DONE);
+        }
+        assert_eq!(echo(&station), "001f hvstep a\r\nSIT> ");
+        assert_eq!(station.line(b"hvstep b"), COMMANDS_FULL);
+        assert_eq!(echo(&station), "hvstep b?\r\nSIT> ");
+        assert_eq!(station.line(b"load 0"), COMMANDS_FULL);
+        assert_eq!(station.line(b"hvstep"), COMMAND);
+        assert_eq!(station.line(b""), DONE);
+        assert_eq!(echo(&station), "SIT> ");
+        assert_eq!(package(&mut station, &[1]), DONE);
+        station.close(0);
+        assert_eq!(station.line(b"hvstep b"), DONE);
+    }
+
+    #[test]
+    fn a_line_refused_by_4_leaves_the_echo() {
+        let mut station = station([8, 0, 0]);
+        station.line(b"");
+        assert_eq!(station.line(&[32; 81]), LINE);
+        assert_eq!(station.line(b"hv\t1"), LINE);
+        assert_eq!(echo(&station), "SIT> ");
+    }
+
+    #[test]
+    fn a_waiting_load() {
+        let mut station = station([128 + 60, 1, 0]);
+        assert_eq!(station.line(b"load c200 0"), COMMAND); // reach 0
+        assert_eq!(package(&mut station, &[1, 0, 1]), DONE);
+        assert_eq!(echo(&station), "binary A:00000000 N:00000003 OK\r\nSIT> ");
+        assert_eq!(station.line(b"load c200 0"), DONE);
+        for line in ["load c200 0", "load 0", "loadat 0", "loadat 3"] {
+            assert_eq!(station.line(line.as_bytes()), LOAD_WAITS);
+            assert_eq!(echo(&station), format!("{line}?\r\nSIT> "));
+        }
+        for line in ["load 1", "loadat 4", "load 6fff 0", "load c200 3"] {
+            assert_eq!(station.line(line.as_bytes()), COMMAND);
+        }
+        assert_eq!(station.line(b"hv 1"), DONE);
+        for any in [&[][..], &[0, 2, 0, 0], &[0, 3, 0, 0, 1]] {
+            assert_eq!(station.package(any), LOAD_WAITS);
+        }
+        assert_eq!(echo(&station), "0001 hv 1\r\nSIT> ");
+        // Khi becomes 65,537, so u -1: out of bounds, but only after the close.
+        station.event(&STOP);
+        let closed = station.close(0);
+        assert_eq!((closed.counts.boxes[60], closed.counts.boxes[6]), (1, 0));
+        let cell_sum = (128 + 60) << 16 | 1 << 8;
+        assert_eq!(station.output[264..267], u32::to_be_bytes(cell_sum)[1..]);
+        station.event(&STOP);
+        let closed = station.close(0);
+        assert_eq!((closed.counts.boxes[60], closed.counts.boxes[6]), (0, 1));
+        assert_eq!(station.processor.addresses, Addresses::ZERO);
+        let mut tables: Tables = station.tables.try_into().unwrap();
+        assert_eq!(tables::word(&tables, KHI), 65_537);
+        set_word(&mut tables, KHI, 0);
+        assert_eq!(tables::sum(&tables), cell_sum);
+    }
+
+    #[test]
+    fn a_package_with_a_wrong_sum_is_placed() {
+        let mut station = station([8, 0, 0]);
+        assert_eq!(station.package(&[0, 4, 1, 2, 0, 4]), PACKAGE_SUM);
+        assert_eq!(echo(&station), "binary A:00000000 N:00000002 ckserr 00000004 00000003\r\nSIT> ");
+        assert_eq!(station.processor.addresses, Addresses { next: 2, reach: 2 });
+        assert_eq!(station.staging[..2], [1, 2]);
+        assert_eq!(station.line(b"loadat 1"), DONE);
+        assert_eq!(package(&mut station, &[9]), DONE);
+        assert_eq!(echo(&station), "binary A:00000001 N:00000001 OK\r\nSIT> ");
+        assert_eq!(station.line(b"load 0"), DONE);
+        assert_eq!(station.processor.addresses, Addresses::ZERO);
+        assert_eq!(station.package(&[0, 3, 1]), PACKAGE);
+        assert_eq!(echo(&station), "0001 load 0\r\nSIT> ");
+    }
+
+    #[test]
+    fn frames_are_modulo_65_536() {
+        let mut station = station([8, 0, 0]);
+        station.processor.frame = 65_535;
+        station.close(0);
+        assert_eq!(station.output[267..269], [0xFF, 0xFF]);
+        assert_eq!(station.processor.frame, 0);
+    }
+
+    #[test]
+    fn buffers_of_another_length() {
+        let mut s = station([8, 0, 0]);
+        let p = &mut s.processor;
+        assert_eq!(p.event(&STOP, &s.tables[1..], &mut s.slots), BUFFER);
+        assert_eq!(p.event(&STOP, &s.tables, &mut s.slots[1..]), BUFFER);
+        assert_eq!(p.line(&[0; 81], &mut s.echo[1..]), BUFFER);
+        assert_eq!(p.package(&[], &mut s.staging[1..], &mut s.echo), BUFFER);
+        assert_eq!(p.package(&[], &mut s.staging, &mut s.echo[1..]), BUFFER);
+        let closed = p.close(0, &mut s.tables, &s.staging, &mut s.slots, &mut s.output[1..]);
+        assert_eq!((closed.number, closed.taken, closed.filled), (BUFFER, 0, 0));
+    }
+}

@@ -1,0 +1,150 @@
+//! The programs: `minute` of document 01, and `replay`, which prints every answer.
+
+use std::fs::File;
+use std::io::{stdin, stdout, BufReader, BufWriter, Read, Result, Write};
+
+use crate::calls::{read, Call, Form};
+use crate::causes::DONE;
+use crate::commands::Settings;
+use crate::packets::PACKET_BYTES;
+use crate::processor::Closed;
+use crate::reader::{self, Body};
+use crate::station::Station;
+use crate::tables::TABLE_BYTES;
+
+/// Runs a program on `tables.bin`, standard input and standard output.
+pub fn run(form: Form) -> Result<()> {
+    let mut input = BufReader::with_capacity(1 << 16, stdin().lock());
+    let mut out = BufWriter::with_capacity(1 << 16, stdout().lock());
+    program(form, tables_file(), &mut input, &mut out)?;
+    out.flush()
+}
+
+/// The bytes of `tables.bin`; none for a missing file, one byte too many for a long one.
+fn tables_file() -> Vec<u8> {
+    let mut tables = Vec::new();
+    if let Ok(file) = File::open("tables.bin") {
+        if file.take(TABLE_BYTES as u64 + 1).read_to_end(&mut tables).is_err() {
+            tables.clear();
+        }
+    }
+    tables
+}
+
+pub fn program(form: Form, tables: Vec<u8>, input: &mut impl Read, out: &mut impl Write) -> Result<()> {
+    let Some(mut station) = Station::new(tables) else {
+        return writeln!(out, "refused 1");
+    };
+    loop {
+        match (read(input, form), form) {
+            (Ok(Some(call)), Form::Minute) => minute(&mut station, call, out)?,
+            (Ok(Some(call)), Form::Replay) => replay(&mut station, call, out)?,
+            (Ok(None), _) => return Ok(()),
+            (Err(_), _) => return writeln!(out, "bad record"),
+        }
+    }
+}
+
+/// Carries out one call and prints what `minute` prints of it.
+fn minute(station: &mut Station, call: Call, out: &mut impl Write) -> Result<()> {
+    let number = match call {
+        Call::Event(event) => station.event(&event),
+        Call::Reading(counts) => station.reading(&counts),
+        Call::Line(line) => station.line(&line),
+        Call::Close(time) => {
+            let frame = station.processor.frame;
+            let closed = station.close(time);
+            if closed.number == DONE {
+                let [b5, b6, b7] = [5, 6, 7].map(|b| closed.counts.boxes[b]);
+                writeln!(out, "{frame} {} {b5} {b6} {b7} {}", closed.taken, closed.filled)?;
+            }
+            closed.number
+        }
+        Call::Package(_) | Call::Packet(_) => DONE, // no records of minute
+    };
+    if number != DONE {
+        writeln!(out, "refused {number}")?;
+    }
+    Ok(())
+}
+
+/// Carries out one call and prints the whole of its answer.
+fn replay(station: &mut Station, call: Call, out: &mut impl Write) -> Result<()> {
+    match call {
+        Call::Event(event) => writeln!(out, "event {}", station.event(&event)),
+        Call::Reading(counts) => writeln!(out, "reading {}", station.reading(&counts)),
+        Call::Line(line) => {
+            write!(out, "line {} ", station.line(&line))?;
+            digits(out, &station.echo)
+        }
+        Call::Package(package) => {
+            write!(out, "package {} ", station.package(&package))?;
+            digits(out, &station.echo)
+        }
+        Call::Close(time) => {
+            let frame = station.processor.frame;
+            let closed = station.close(time);
+            print_closed(out, frame, &closed, &station.output)
+        }
+        Call::Packet(packet) => print_packet(out, &packet),
+    }
+}
+
+fn print_closed(out: &mut impl Write, frame: u16, closed: &Closed, output: &[u8]) -> Result<()> {
+    if closed.number != DONE {
+        return writeln!(out, "close {}", closed.number);
+    }
+    writeln!(out, "close 0 {frame} {} {}", closed.taken, closed.filled)?;
+    numbers(out, "boxes", &closed.counts.boxes[1..])?;
+    numbers(out, "beacons", &closed.counts.beacons[1..])?;
+    for packet in output.chunks_exact(PACKET_BYTES) {
+        write!(out, "out ")?;
+        digits(out, packet)?;
+    }
+    Ok(())
+}
+
+fn print_packet(out: &mut impl Write, packet: &[u8]) -> Result<()> {
+    let read = match reader::read(packet) {
+        Ok(read) => read,
+        Err(number) => return writeln!(out, "packet {number}"),
+    };
+    let header = format!("{} {} {}", read.sequence, read.time, read.frame);
+    writeln!(out, "packet 0")?;
+    match read.body {
+        Body::Rate { totals, boxes, settings, table_sum } => {
+            writeln!(out, "rate {header}")?;
+            numbers(out, "rates", &[&totals[..], &boxes].concat())?;
+            let Settings { limhi, eonly, toferror, junk, hv, hvstep } = settings;
+            let [hv, eonly, toferror, junk] = [hv, eonly, toferror, junk].map(u8::from);
+            writeln!(out, "settings {hvstep} {hv} {eonly} {toferror} {junk} {limhi} {table_sum}")
+        }
+        Body::Sample { p, records } => {
+            writeln!(out, "sample {header} {p}")?;
+            write!(out, "records ")?;
+            digits(out, records)
+        }
+        Body::Beacon { rates } => {
+            writeln!(out, "beacon {header}")?;
+            numbers(out, "rates", &rates)
+        }
+    }
+}
+
+/// A line of a name and decimal numbers.
+fn numbers(out: &mut impl Write, name: &str, values: &[u32]) -> Result<()> {
+    write!(out, "{name}")?;
+    for value in values {
+        write!(out, " {value}")?;
+    }
+    writeln!(out)
+}
+
+/// The bytes as digits 0-9 a-f, and the end of the line.
+fn digits(out: &mut impl Write, bytes: &[u8]) -> Result<()> {
+    const DIGITS: &[u8; 16] = b"0123456789abcdef";
+    let pair = |byte: &u8| [DIGITS[(byte >> 4) as usize], DIGITS[(byte & 15) as usize]];
+    let mut text: Vec<u8> = bytes.iter().flat_map(pair).collect();
+    text.push(b'\n');
+    out.write_all(&text)
+}

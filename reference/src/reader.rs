@@ -1,0 +1,242 @@
+//! The ground reader: document 01, "Packets" and causes 11 to 13.
+
+use crate::causes::*;
+use crate::codes::least_count;
+use crate::commands::Settings;
+use crate::packets::*;
+
+/// What the reader returns of a packet.
+#[derive(Debug, PartialEq, Eq)]
+pub struct Packet<'a> {
+    pub sequence: u16,
+    pub time: u32,
+    pub frame: u16,
+    pub body: Body<'a>,
+}
+
+/// Rates are least counts.
+#[derive(Debug, PartialEq, Eq)]
+pub enum Body<'a> {
+    Rate { totals: [u32; 8], boxes: [u32; 116], settings: Settings, table_sum: u32 },
+    Sample { p: u8, records: &'a [u8] },
+    Beacon { rates: [u32; 12] },
+}
+
+pub fn read(packet: &[u8]) -> Result<Packet<'_>, Number> {
+    if packet.len() != PACKET_BYTES {
+        return Err(HEADER);
+    }
+    let application = header(packet).ok_or(HEADER)?;
+    if packet[271] != packet_sum(packet) {
+        return Err(PACKET_SUM);
+    }
+    let body = match application {
+        RATE => rate(packet),
+        BEACON => beacon(packet),
+        sample_number => sample(packet, sample_number),
+    };
+    Ok(Packet {
+        sequence: two_bytes(packet, 2) % 16_384,
+        time: (two_bytes(packet, 6) as u32) << 16 | two_bytes(packet, 8) as u32,
+        frame: two_bytes(packet, 267),
+        body: body.ok_or(BODY)?,
+    })
+}
+
+/// The application number, if the eleven header bytes are some packet's above;
+/// any sequence count and any time pass.
+fn header(packet: &[u8]) -> Option<u16> {
+    let first = two_bytes(packet, 0);
+    let application = first % 2_048;
+    let known = matches!(application, RATE | FIRST_SAMPLE..=LAST_SAMPLE | BEACON);
+    let right = first >> 11 == 1 // version 0, type 0, secondary flag 1
+        && packet[2] >> 6 == 3
+        && two_bytes(packet, 4) == 265
+        && packet[10] == 0;
+    (known && right).then_some(application)
+}
+
+fn rate(packet: &[u8]) -> Option<Body<'_>> {
+    let unused = [packet[259], packet[261] & 15, packet[269], packet[270]];
+    let limhi = two_bytes(packet, 262);
+    if unused != [0; 4] || limhi > 704 {
+        return None;
+    }
+    Some(Body::Rate {
+        totals: rates(packet, 11)?,
+        boxes: rates(packet, 27)?,
+        settings: Settings {
+            limhi,
+            hvstep: packet[260],
+            hv: packet[261] & 128 != 0,
+            eonly: packet[261] & 64 != 0,
+            toferror: packet[261] & 32 != 0,
+            junk: packet[261] & 16 != 0,
+        },
+        table_sum: (packet[264] as u32) << 16 | two_bytes(packet, 265) as u32,
+    })
+}
+
+fn sample(packet: &[u8], application: u16) -> Option<Body<'_>> {
+    let p = packet[269];
+    let records = &packet[11..267];
+    let lawful = |record: &[u8]| record == [0; 4] || (6..=116).contains(&(record[3] >> 1));
+    let right = application == FIRST_SAMPLE + p as u16
+        && packet[270] == 0
+        && records.chunks_exact(4).all(lawful);
+    right.then_some(Body::Sample { p, records })
+}
+
+fn beacon(packet: &[u8]) -> Option<Body<'_>> {
+    let unused = [&packet[35..267], &packet[269..271]];
+    if unused.into_iter().flatten().any(|byte| *byte != 0) {
+        return None;
+    }
+    Some(Body::Beacon { rates: rates(packet, 11)? })
+}
+
+/// The least counts of the N codes from byte `from` on.
+fn rates<const N: usize>(packet: &[u8], from: usize) -> Option<[u32; N]> {
+    let mut counts = [0; N];
+    for (i, count) in counts.iter_mut().enumerate() {
+        *count = least_count(two_bytes(packet, from + 2 * i))?;
+    }
+    Some(counts)
+}
+
+fn two_bytes(packet: &[u8], at: usize) -> u16 {
+    u16::from_be_bytes([packet[at], packet[at + 1]])
+}
+
+#[cfg(test)]
+mod tests {
+    use super::*;
+    use crate::samples::SLOTS;
+    use crate::sorting::Counts;
+
+    const SETTINGS: Settings =
+        Settings { limhi: 3, eonly: true, toferror: false, junk: true, hv: false, hvstep: 9 };
+
+    fn rate_packet() -> [u8; PACKET_BYTES] {
+        let mut counts = Counts::ZERO;
+        counts.boxes[5] = 1_000_000;
+        let mut packet = [0; PACKET_BYTES];
+        write_rate(&mut packet, 60, 40_000, &[8_193; 8], &counts, &SETTINGS, 0x123456);
+        packet
+    }
+
+    fn sample_packet(p: usize) -> [u8; PACKET_BYTES] {
+        let mut packet = [0; PACKET_BYTES];
+        write_sample(&mut packet, 60, 7, p, &[0x963E8079; SLOTS]);
+        packet
+    }
+
+    fn beacon_packet() -> [u8; PACKET_BYTES] {
+        let mut packet = [0; PACKET_BYTES];
+        write_beacon(&mut packet, 60, 7, &Counts { beacons: [5_000; 13], ..Counts::ZERO });
+        packet
+    }
+
+    /// The reader's number once byte `at` is changed, with the sum renewed.
+    fn changed(mut packet: [u8; PACKET_BYTES], at: usize, value: u8) -> Number {
+        packet[at] = value;
+        packet[271] = packet_sum(&packet);
+        read(&packet).err().unwrap_or(DONE)
+    }
+
+    #[test]
+    fn a_rate_packet_reads_back() {
+        let packet = rate_packet();
+        let read = read(&packet).unwrap();
+        // 40,000 modulo 16,384 is 7,232; 8,193 has least count 8,192, 1,000,000 999,936.
+        assert_eq!((read.sequence, read.time, read.frame), (7_232, 60, 40_000));
+        let mut boxes = [0; 116];
+        boxes[4] = 999_936;
+        let totals = [8_192; 8];
+        assert_eq!(read.body, Body::Rate { totals, boxes, settings: SETTINGS, table_sum: 0x123456 });
+    }
+
+    #[test]
+    fn a_sample_packet_hands_back_its_own_bytes() {
+        let packet = sample_packet(10);
+        let Body::Sample { p, records } = read(&packet).unwrap().body else { panic!() };
+        assert_eq!(p, 10);
+        assert!(std::ptr::eq(records, &packet[11..267]));
+    }
+
+    #[test]
+    fn a_beacon_packet_reads_back() {
+        // 5,000 is 2 x 2,500: least count 5,000.
+        assert_eq!(read(&beacon_packet()).unwrap().body, Body::Beacon { rates: [5_000; 12] });
+    }
+
+    #[test]
+    fn cause_11() {
+        let packet = rate_packet();
+        assert_eq!(read(&[]), Err(HEADER));
+        assert_eq!(read(&packet[..271]), Err(HEADER));
+        assert_eq!(read(&[&packet[..], &[0]].concat()), Err(HEADER));
+        for (at, value) in [
+            (0, 0x2A), // version 1
+            (0, 0x1A), // type 1
+            (0, 0x02), // secondary flag 0
+            (1, 0x5C), // application number 604
+            (1, 0x69), // 617
+            (1, 0x71), // 625
+            (2, 0x80), // sequence flags 2
+            (4, 0x02),
+            (5, 0x08),
+            (10, 1),
+        ] {
+            assert_eq!(changed(packet, at, value), HEADER, "byte {at}");
+        }
+        assert_eq!(changed(packet, 2, 0xFF), DONE, "any sequence count passes");
+    }
+
+    #[test]
+    fn cause_12_comes_before_13() {
+        let mut packet = rate_packet();
+        packet[259] = 1;
+        assert_eq!(read(&packet), Err(PACKET_SUM));
+        packet[271] = packet[271].wrapping_add(1);
+        assert_eq!(read(&packet), Err(BODY));
+    }
+
+    #[test]
+    fn cause_13_in_each_unused_byte() {
+        for at in [259, 269, 270] {
+            assert_eq!(changed(rate_packet(), at, 1), BODY);
+        }
+        for bit in 0..4 {
+            assert_eq!(changed(rate_packet(), 261, 1 << bit), BODY);
+            assert_eq!(changed(rate_packet(), 261, 16 << bit), DONE);
+        }
+        assert_eq!(changed(sample_packet(3), 270, 128), BODY);
+        for at in (35..267).chain([269, 270]) {
+            assert_eq!(changed(beacon_packet(), at, 1), BODY);
+        }
+    }
+
+    #[test]
+    fn cause_13_in_codes_and_limhi() {
+        for at in [11, 25, 27, 257] {
+            assert_eq!(changed(rate_packet(), at, 0x17), BODY);
+            assert_eq!(changed(rate_packet(), at, 0xD8), BODY);
+            assert_eq!(changed(rate_packet(), at, 0xC8), DONE);
+        }
+        assert_eq!(changed(beacon_packet(), 33, 0x10), BODY);
+        let mut packet = rate_packet();
+        packet[262] = 2;
+        assert_eq!(changed(packet, 263, 0xC0), DONE); // 2C0 hex is 704
+        assert_eq!(changed(packet, 263, 0xC1), BODY);
+    }
+
+    #[test]
+    fn cause_13_in_samples() {
+        assert_eq!(changed(sample_packet(3), 269, 4), BODY);
+        assert_eq!(changed(sample_packet(3), 1, 0x5E), BODY); // number 606 with p 3
+        for (b, number) in [(0, BODY), (5, BODY), (6, DONE), (116, DONE), (117, BODY), (127, BODY)] {
+            assert_eq!(changed(sample_packet(3), 266, b << 1), number, "box {b}");
+        }
+    }
+}

@@ -1,0 +1,57 @@
+//! A processor with the buffers that the programs lend it, the same ones throughout:
+//! tables as read, all others zero at first.
+
+use crate::causes::Number;
+use crate::commands::ECHO_BYTES;
+use crate::loads::STAGING_BYTES;
+use crate::packets::OUTPUT_BYTES;
+use crate::processor::{Closed, Processor};
+use crate::samples::SLOTS;
+use crate::sorting::Event;
+use crate::tables::TABLE_BYTES;
+
+#[derive(Clone)]
+pub struct Station {
+    pub processor: Processor,
+    pub tables: Vec<u8>,
+    pub staging: Vec<u8>,
+    pub slots: Vec<u32>,
+    pub echo: [u8; ECHO_BYTES],
+    pub output: Vec<u8>,
+}
+
+impl Station {
+    /// None if the tables are not of the length they must have.
+    pub fn new(tables: Vec<u8>) -> Option<Station> {
+        (tables.len() == TABLE_BYTES).then(|| Station {
+            processor: Processor::FRESH,
+            tables,
+            staging: vec![0; STAGING_BYTES],
+            slots: vec![0; SLOTS],
+            echo: [0; ECHO_BYTES],
+            output: vec![0; OUTPUT_BYTES],
+        })
+    }
+
+    #[inline]
+    pub fn event(&mut self, event: &Event) -> Number {
+        self.processor.event(event, &self.tables, &mut self.slots)
+    }
+
+    pub fn reading(&mut self, counts: &[u16; 8]) -> Number {
+        self.processor.reading(counts)
+    }
+
+    pub fn line(&mut self, line: &[u8]) -> Number {
+        self.processor.line(line, &mut self.echo)
+    }
+
+    pub fn package(&mut self, package: &[u8]) -> Number {
+        self.processor.package(package, &mut self.staging, &mut self.echo)
+    }
+
+    pub fn close(&mut self, time: u32) -> Closed {
+        let Station { processor, tables, staging, slots, output, .. } = self;
+        processor.close(time, tables, staging, slots, output)
+    }
+}

@@ -1,0 +1,75 @@
+//! Document 01, "The lookup tables": 20,995 words of 24 bits, most significant byte first.
+
+pub const TABLE_BYTES: usize = 62_985;
+
+pub type Tables = [u8; TABLE_BYTES];
+
+// Word addresses. The first four are 001's, the three offsets are document 01's.
+pub const HIGH_ENERGY: usize = 0x7000;
+pub const LOW_ENERGY: usize = 0x7800;
+pub const MATRIX: usize = 0x8000;
+pub const TIME_OF_FLIGHT: usize = 0xC000;
+pub const KHI: usize = 0xC200;
+pub const KLO: usize = 0xC201;
+pub const KTOF: usize = 0xC202;
+
+pub const FIRST_WORD: usize = HIGH_ENERGY;
+pub const LAST_WORD: usize = KTOF;
+
+/// Where the word at `address` begins in the buffer.
+#[inline]
+pub fn position(address: usize) -> usize {
+    3 * (address - FIRST_WORD)
+}
+
+/// The word at `address`, 0 to 2^24 - 1.
+#[inline]
+pub fn word(tables: &Tables, address: usize) -> i32 {
+    let i = position(address);
+    (tables[i] as i32) << 16 | (tables[i + 1] as i32) << 8 | tables[i + 2] as i32
+}
+
+pub fn set_word(tables: &mut Tables, address: usize, value: u32) {
+    tables[position(address)..][..3].copy_from_slice(&value.to_be_bytes()[1..]);
+}
+
+/// Sum of all words modulo 2^24 (rate packet, bytes 264-266).
+pub fn sum(tables: &Tables) -> u32 {
+    let words = tables.chunks_exact(3);
+    words.fold(0u32, |sum, w| sum.wrapping_add((w[0] as u32) << 16 | (w[1] as u32) << 8 | w[2] as u32))
+        & 0xFF_FFFF
+}
+
+#[cfg(test)]
+mod tests {
+    use super::*;
+
+    #[test]
+    fn the_buffer_holds_20_992_words_and_three_offsets() {
+        assert_eq!(LAST_WORD - FIRST_WORD + 1, 20_992 + 3);
+        assert_eq!(3 * (LAST_WORD - FIRST_WORD + 1), TABLE_BYTES);
+        assert_eq!(LOW_ENERGY - HIGH_ENERGY, 2_048);
+        assert_eq!(MATRIX - LOW_ENERGY, 2_048);
+        assert_eq!(TIME_OF_FLIGHT - MATRIX, 16_384);
+        assert_eq!(KHI - TIME_OF_FLIGHT, 512);
+        // Document 01 names these two places of the matrix.
+        assert_eq!(position(MATRIX), 12_288);
+        assert_eq!(position(TIME_OF_FLIGHT), 61_440);
+    }
+
+    #[test]
+    fn words_go_most_significant_byte_first() {
+        let mut tables = [0; TABLE_BYTES];
+        tables[62_982..].copy_from_slice(&[0x01, 0x02, 0x03]);
+        assert_eq!(word(&tables, KTOF), 0x010203);
+        set_word(&mut tables, HIGH_ENERGY, 0xFEFDFC);
+        assert_eq!(tables[..4], [0xFE, 0xFD, 0xFC, 0]);
+    }
+
+    #[test]
+    fn the_sum_is_modulo_2_to_the_24() {
+        // 20,995 words of 2^24 - 1 are -20,995 modulo 2^24.
+        assert_eq!(sum(&[255; TABLE_BYTES]), (1 << 24) - 20_995);
+        assert_eq!(sum(&[0; TABLE_BYTES]), 0);
+    }
+}

@@ -1,0 +1,134 @@
+//! `minute` and `replay` on streams written out by hand.
+
+use reference::calls::Form;
+use reference::programs::program;
+use reference::tables::TABLE_BYTES;
+
+fn run_on(form: Form, tables: Vec<u8>, stream: &[u8]) -> String {
+    let mut out = Vec::new();
+    program(form, tables, &mut &stream[..], &mut out).unwrap();
+    String::from_utf8(out).unwrap()
+}
+
+fn run(form: Form, stream: &[u8]) -> String {
+    run_on(form, vec![0; TABLE_BYTES], stream)
+}
+
+fn minute_line(text: &[u8]) -> Vec<u8> {
+    let mut record = [&[3], text].concat();
+    record.resize(81, 0);
+    record
+}
+
+const CLOSE: [u8; 5] = [4, 0, 0, 0, 0x3C];
+
+#[test]
+fn the_example_of_document_01() {
+    let stream = [0x01, 0x00, 0x05, 0x00, 0x64, 0x00, 0x00, 0x00, 0x04, 0x00, 0x00, 0x00, 0x3C];
+    assert_eq!(run(Form::Minute, &stream), "0 1 1 0 0 0\n");
+}
+
+#[test]
+fn tables_of_another_length() {
+    for length in [0, 1, TABLE_BYTES - 1, TABLE_BYTES + 1] {
+        for form in [Form::Minute, Form::Replay] {
+            assert_eq!(run_on(form, vec![0; length], &CLOSE), "refused 1\n");
+        }
+    }
+}
+
+#[test]
+fn minute_says_nothing_of_what_is_carried_out() {
+    let stream = [minute_line(b""), minute_line(b"junk 1"), [2; 17].to_vec()].concat();
+    assert_eq!(run(Form::Minute, &stream), "");
+}
+
+#[test]
+fn minute_says_what_is_refused() {
+    let wrong_event = [1, 0, 0, 0, 0, 0, 0, 16];
+    let stream = [&wrong_event[..], &minute_line(b"hv"), &minute_line(b"h\nv"), &CLOSE].concat();
+    assert_eq!(run(Form::Minute, &stream), "refused 2\nrefused 5\nrefused 4\n0 0 0 0 0 0\n");
+}
+
+#[test]
+fn a_line_of_minute_ends_before_its_first_zero_byte() {
+    let stream = [minute_line(b"junk 1\0\x01hv"), CLOSE.to_vec()].concat();
+    assert_eq!(run(Form::Minute, &stream), "0 0 0 0 0 0\n");
+    assert_eq!(run(Form::Minute, &minute_line(&[b'x'; 80])), "refused 5\n");
+}
+
+#[test]
+fn bad_records() {
+    for stream in [&[0][..], &[5], &[6], &[7], &[255], &[1, 0, 0, 0, 0, 0, 0], &[2], &[3], &[4, 0]] {
+        let before = [&CLOSE[..], stream].concat();
+        assert_eq!(run(Form::Minute, &before), "0 0 0 0 0 0\nbad record\n", "{stream:?}");
+    }
+    for stream in
+        [&[0][..], &[7], &[1], &[3], &[3, 0], &[3, 0, 1], &[5, 0], &[5, 0, 2, 0], &[6, 1, 16, 0]]
+    {
+        assert_eq!(run(Form::Replay, stream), "bad record\n", "{stream:?}");
+    }
+    assert_eq!(run(Form::Replay, &[]), "");
+}
+
+fn digits(bytes: &[u8], length: usize) -> String {
+    let text: String = bytes.iter().map(|byte| format!("{byte:02x}")).collect();
+    text + &"00".repeat(length - bytes.len())
+}
+
+#[test]
+fn replay_prints_the_whole_echo_buffer() {
+    let stream =
+        [&[3, 0, 0][..], &[3, 0, 1, 127], &[3, 0, 4], b"hv 1", &[5, 0, 5, 0, 3, 7, 0, 7], &[5, 0, 0]]
+            .concat();
+    let package = digits(b"binary A:00000000 N:00000001 OK\r\nSIT> ", 128);
+    let expected = [
+        format!("line 0 {}\n", digits(b"SIT> ", 128)),
+        format!("line 4 {}\n", digits(b"SIT> ", 128)),
+        format!("line 0 {}\n", digits(b"0000 hv 1\r\nSIT> ", 128)),
+        format!("package 0 {package}\n"),
+        format!("package 8 {package}\n"),
+    ];
+    assert_eq!(run(Form::Replay, &stream), expected.concat());
+}
+
+#[test]
+fn replay_prints_a_close_and_its_packets_read_back() {
+    // A sample of box 8 by tables of zeros but for one cell, and a reading.
+    let mut tables = vec![0; TABLE_BYTES];
+    tables[3 * (0x1000 + 128 * 18 + 88)] = 128 + 8;
+    let event = [1, 1, 44, 0x03, 0xE8, 0, 0, 8];
+    let reading = [&[2][..], &[0x10, 0x01], &[0; 14]].concat();
+    let text = run_on(Form::Replay, tables.clone(), &[&event[..], &reading, &CLOSE].concat());
+    let lines: Vec<&str> = text.lines().collect();
+    assert_eq!(lines[..3], ["event 0", "reading 0", "close 0 0 1 1"]);
+    assert_eq!(lines[3], format!("boxes 0 1 1 0 0 0 0 1{}", " 0".repeat(108)));
+    assert_eq!(lines[4], format!("beacons{}", " 0".repeat(12)));
+    assert_eq!(lines.len(), 5 + 13);
+    let packets: Vec<Vec<u8>> = lines[5..]
+        .iter()
+        .map(|line| {
+            let text = line.strip_prefix("out ").unwrap();
+            assert_eq!(text.len(), 544);
+            (0..272).map(|i| u8::from_str_radix(&text[2 * i..2 * i + 2], 16).unwrap()).collect()
+        })
+        .collect();
+    assert_eq!(packets[0][..13], [0x0A, 0x5D, 0xC0, 0, 1, 9, 0, 0, 0, 0x3C, 0, 0x18, 0x00]);
+    // t 300, channel 1,000, box 8, priority 1: document 01's record with another box.
+    assert_eq!(packets[1][11..15], [0x96, 0x3E, 0x80, 0x11]);
+
+    let read = |packet: &[u8]| run(Form::Replay, &[&[6, 1, 16], packet].concat());
+    let sum = (128 + 8) << 16;
+    assert_eq!(
+        read(&packets[0]),
+        format!(
+            "packet 0\nrate 0 60 0\nrates 4096{} 0 1 1 0 0 0 0 1{}\nsettings 0 0 0 0 0 500 {sum}\n",
+            " 0".repeat(7),
+            " 0".repeat(108)
+        )
+    );
+    let records = digits(&[0x96, 0x3E, 0x80, 0x11], 256);
+    assert_eq!(read(&packets[1]), format!("packet 0\nsample 0 60 0 0\nrecords {records}\n"));
+    assert_eq!(read(&packets[12]), format!("packet 0\nbeacon 0 60 0\nrates{}\n", " 0".repeat(12)));
+    assert_eq!(run(Form::Replay, &[6, 0, 0]), "packet 11\n");
+}

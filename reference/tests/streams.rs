@@ -1,0 +1,136 @@
+//! What must hold of every generated stream: the box balances and the sample rule, each
+//! computed from the whole list of an interval's events; and that all causes occur.
+
+use std::collections::BTreeSet;
+
+use reference::calls::{read, Call, Form};
+use reference::generate::{stories, Stream};
+use reference::programs::program;
+use reference::reader;
+use reference::samples::SLOTS;
+use reference::sorting::{eligible, record, sort, Event, Sorted};
+use reference::station::Station;
+
+fn stream(seed: u64, calls: usize, form: Form) -> Stream {
+    let mut stream = Stream::new(seed, form);
+    stream.tell(calls);
+    stream
+}
+
+/// The sample rule said of the whole list, not step by step.
+fn slots_of(events: &[(Event, Sorted)], junk: bool, limhi: usize) -> Vec<u32> {
+    let eligible: Vec<_> = events.iter().filter(|(_, s)| eligible(s.b, junk)).collect();
+    let (first, later) = eligible.split_at(eligible.len().min(SLOTS));
+    let mut slots: Vec<u32> = first.iter().map(|(e, s)| record(e, s)).collect();
+    for (h, (e, s)) in later.iter().filter(|(_, s)| s.priority == 1).take(limhi).enumerate() {
+        slots[h] = record(e, s);
+    }
+    slots
+}
+
+fn check_close(station: &mut Station, events: &[Event], time: u32) {
+    let settings = station.processor.settings;
+    let tables = station.tables.as_slice().try_into().unwrap();
+    let sorted: Vec<(Event, Sorted)> =
+        events.iter().filter_map(|event| Some((*event, sort(event, tables, &settings)?))).collect();
+    let expected = slots_of(&sorted, settings.junk, settings.limhi as usize);
+
+    let closed = station.close(time);
+    let boxes = closed.counts.boxes.map(|n| n as usize);
+    let classified: usize = boxes[7..].iter().sum();
+    assert_eq!(closed.taken as usize, events.len());
+    assert_eq!(events.len(), boxes[5] + boxes[3] + boxes[4]);
+    assert_eq!(boxes[3] + boxes[4], boxes[6] + classified);
+    assert_eq!(boxes[1] + boxes[2], classified);
+    for b in 6..=116 {
+        assert_eq!(boxes[b], sorted.iter().filter(|(_, s)| s.b as usize == b).count());
+    }
+    assert_eq!(closed.filled, expected.len());
+
+    let mut slots = Vec::new();
+    for packet in station.output.chunks(272) {
+        let packet = reader::read(packet).unwrap();
+        if let reader::Body::Sample { records, .. } = packet.body {
+            slots.extend(records.chunks(4).map(|r| u32::from_be_bytes(r.try_into().unwrap())));
+        }
+    }
+    assert_eq!(slots[..expected.len()], expected);
+    assert!(slots[expected.len()..].iter().all(|slot| *slot == 0));
+}
+
+#[test]
+fn balances_and_samples_of_every_interval() {
+    for seed in 0..12 {
+        let stream = stream(seed, 5_000, Form::Replay);
+        let mut station = Station::new(stream.tables).unwrap();
+        let mut events = Vec::new();
+        let mut input = &stream.bytes[..];
+        while let Ok(Some(call)) = read(&mut input, Form::Replay) {
+            match call {
+                Call::Event(event) if station.event(&event) == 0 => events.push(event),
+                Call::Event(_) | Call::Packet(_) => {}
+                Call::Reading(counts) => drop(station.reading(&counts)),
+                Call::Line(line) => drop(station.line(&line)),
+                Call::Package(package) => drop(station.package(&package)),
+                Call::Close(time) => {
+                    check_close(&mut station, &events, time);
+                    events.clear();
+                }
+            }
+        }
+    }
+}
+
+#[test]
+fn every_cause_of_a_short_stream_occurs() {
+    let mut seen = BTreeSet::new();
+    for seed in 0..50 {
+        let stream = stream(seed, 5_000, Form::Replay);
+        assert_eq!(stream.calls, 5_000);
+        let mut out = Vec::new();
+        program(Form::Replay, stream.tables, &mut &stream.bytes[..], &mut out).unwrap();
+        for line in String::from_utf8(out).unwrap().lines() {
+            let mut words = line.split(' ').map(str::to_string);
+            let kind = words.next().unwrap();
+            if ["event", "reading", "line", "package", "packet"].contains(&kind.as_str()) {
+                seen.insert((kind, words.next().unwrap().parse::<u8>().unwrap()));
+            }
+        }
+    }
+    let all = |kind: &str, numbers: &[u8]| {
+        for number in numbers {
+            assert!(seen.contains(&(kind.to_string(), *number)), "{kind} {number}");
+        }
+    };
+    all("event", &[0, 2]); // 3 needs a million events
+    all("reading", &[0, 3]);
+    all("line", &[0, 4, 5, 6, 7]);
+    all("package", &[0, 6, 8, 9, 10]);
+    all("packet", &[0, 11, 12, 13]);
+}
+
+#[test]
+fn a_seed_gives_one_stream() {
+    for form in [Form::Replay, Form::Minute] {
+        let (a, b) = (stream(7, 2_000, form), stream(7, 2_000, form));
+        assert!(a.tables == b.tables && a.bytes == b.bytes);
+        assert!(stream(8, 2_000, form).bytes != a.bytes);
+    }
+}
+
+#[test]
+fn minute_and_replay_read_the_example_alike() {
+    let example = stories::example();
+    let run = |form| {
+        let mut out = Vec::new();
+        program(form, example.tables.clone(), &mut &example.bytes[..], &mut out).unwrap();
+        String::from_utf8(out).unwrap()
+    };
+    let line = run(Form::Minute);
+    let minute: Vec<&str> = line.trim_end().split(' ').collect();
+    let text = run(Form::Replay);
+    let close = text.lines().find(|line| line.starts_with("close")).unwrap();
+    let [frame, taken, .., filled] = minute[..] else { panic!() };
+    assert_eq!(close, format!("close 0 {frame} {taken} {filled}"));
+    assert_eq!(filled, "704");
+}
