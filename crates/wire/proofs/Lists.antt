@@ -1,6 +1,6 @@
 -- Laws of the tests and counts on lists. Assumes nothing.
 use mathlib.Core.Path.{_≡_, refl, sym, ap, _∙_}
-use mathlib.Core.Bool.{Bool, true, false, _&&_, false≢true}
+use mathlib.Core.Bool.{Bool, true, false, _&&_, cond, false≢true}
 use mathlib.Core.List.{List, [], _∷_, _++_}
 use Prim.Native.Nat.{ℕ, zero, suc, _+_, _≤_, _<_, suc-le-suc}
 use native.Mathlib.Nat.{le-refl, le-trans, le-suc}
@@ -12,6 +12,18 @@ use borrow.Author.Tests.{leb-true, le-leb}
 use lib.Dec.{leb}
 use native.Mathlib.Decide.{ℕ-discrete, decLt}
 use Rattle.wire.specs.Lists.{all, atMost, EachBelow, bump, joinIf, keep}
+
+and-assoc : (a b c : Bool) → ((a && b) && c) ≡ (a && (b && c))
+and-assoc true b c = refl
+and-assoc false b c = refl
+
+and-true : (a : Bool) → (a && true) ≡ a
+and-true true = refl
+and-true false = refl
+
+join-count : {A : Type 0} (b : Bool) (x : A) (l : List A) → length (joinIf b x l) ≡ cond b 1 0 + length l
+join-count true x l = omega arith
+join-count false x l = omega arith
 
 module _ {A : Type 0} (p : A → Bool) (xs : List A) (d : A) where
   -- the test fails at i
@@ -25,6 +37,22 @@ module _ {A : Type 0} (p : A → Bool) (xs : List A) (d : A) where
   -- every test passed
   pub all-end : (i : ℕ) → length xs ≤ i → all p xs ≡ all p (drop i xs) → all p xs ≡ true
   all-end i h q = q ∙ ap (λ (l : List A). all p l) (drop-of-length-le xs h)
+
+  -- a scan with no early exit: what it has so far, and what is left
+  pub scan-step : (ok : Bool) (i : ℕ) → i < length xs → (ok && all p (drop i xs)) ≡ all p xs → ((ok && p (getD xs i d)) && all p (drop (i + 1) xs)) ≡ all p xs
+  scan-step ok i h q = and-assoc ok (p (getD xs i d)) (all p (drop (i + 1) xs)) ∙ rw (add-one) (rw (drop-cons xs i d) at q)
+
+  pub scan-end : (ok : Bool) (i : ℕ) → length xs ≤ i → (ok && all p (drop i xs)) ≡ all p xs → ok ≡ all p xs
+  scan-end ok i h q = sym (and-true ok) ∙ ap (λ (l : List A). ok && all p l) (sym (drop-of-length-le xs h)) ∙ q
+
+  -- how many pass, by one element
+  pub count-step : (i : ℕ) → i < length xs → length (keep p (drop i xs)) ≡ cond (p (getD xs i d)) 1 0 + length (keep p (drop (i + 1) xs))
+  unfolding keep
+  count-step i h = rw (add-one, drop-cons xs i d) (join-count (p (getD xs i d)) (getD xs i d) (keep p (drop (suc i) xs)))
+
+  pub count-end : (i : ℕ) → length xs ≤ i → length (keep p (drop i xs)) ≡ 0
+  unfolding keep
+  count-end i h = ap (λ (l : List A). length (keep p l)) (drop-of-length-le xs h)
 
 -- a conjunction's two parts
 pub and-left : (a b : Bool) → (a && b) ≡ true → a ≡ true
