@@ -1,0 +1,148 @@
+-- Each command in its ranges is given by some line: `commandOk` refuses no command that a line can give, and no line can
+-- give one that it refuses (`waits-ok`). Assumes nothing.
+use mathlib.Core.Path.{_≡_, refl, ap, _∙_}
+use mathlib.Core.Bool.{Bool, true, false}
+use mathlib.Core.List.{List, [], _∷_, _++_}
+use mathlib.Core.Logic.{⊎-elim}
+use Prim.Native.Nat.{ℕ, _+_, _-_, _/_, _%_, _≤_, _<_}
+use native.Mathlib.Omega.{arith}
+use lib.Dec.{leb, eqb}
+use borrow.Author.Tests.{leb-true, leb-false, le-leb, lt-leb, ne-eqb}
+use Rattle.wire.specs.Lists.{all}
+use Rattle.load.proofs.ListLaws.{either}
+use Rattle.load.proofs.LoadLaws.{lawful-is}
+use Rattle.command.specs.Text.{text, same}
+use Rattle.command.specs.Grammar.{printable, bytesOk, wordsOf, isDigit, digitValue, argumentOf, rightIf, look, withOne, withTwo, oneArgument, twoArguments, ofWords, lineOf, commandOk}
+use Rattle.command.specs.Echo.{hexDigit, hex2}
+use Rattle.command.specs.declared.command.Command.{Command}
+use Rattle.command.specs.declared.command.Command.the-variants.{Limhi, Eonly, Toferror, Junk, Hv, Hvstep, Load}
+use Rattle.command.specs.declared.command.Line.the-variants.{Waits}
+use Rattle.command.specs.declared.argument.Argument.{Argument}
+use Rattle.command.specs.declared.argument.Argument.the-variants.{Value}
+
+-- ---- a number in four digits
+
+abbrev digits : ℕ → List ℕ
+digits n = hex2 (n / 256) ++ hex2 (n % 256)
+
+-- what a digit is
+record Digit (d : ℕ) : Type 0 where
+  is : isDigit (hexDigit d) ≡ true
+  shown : printable (hexDigit d) ≡ true
+  apart : eqb (hexDigit d) 32 ≡ false
+  value : digitValue (hexDigit d) ≡ d
+
+digit : (d : ℕ) → d < 16 → Digit d
+digit d h =
+    ⊎-elim
+    (λ e.
+    let g : d ≤ 9 = leb-true d 9 e in
+    let k : hexDigit d ≡ 48 + d = rw e in
+    record {
+      is = rw k (simp (le-leb 48 (48 + d) (omega arith), le-leb (48 + d) 57 (omega arith)));
+      shown = rw k (simp (le-leb 32 (48 + d) (omega arith), le-leb (48 + d) 126 (omega arith)));
+      apart = rw k (ne-eqb (48 + d) 32 (λ q. omega arith));
+      value = rw k (simp (le-leb (48 + d) 57 (omega arith)) (omega arith));
+    })
+    (λ e.
+    let g : 9 < d = leb-false d 9 e in
+    let k : hexDigit d ≡ 97 + (d - 10) = rw e in
+    let v : ℕ = 97 + (d - 10) in
+    record {
+      is = rw k (simp (lt-leb v 57 (omega arith), le-leb 48 v (omega arith), le-leb 97 v (omega arith), le-leb v 102 (omega arith)));
+      shown = rw k (simp (le-leb 32 v (omega arith), le-leb v 126 (omega arith)));
+      apart = rw k (ne-eqb v 32 (λ q. omega arith));
+      value = rw k (simp (lt-leb v 57 (omega arith)) (omega arith));
+    })
+    (either (leb d 9))
+
+module _ (n : ℕ) (h : n < 65536) where
+  d₁ : Digit (n / 256 / 16)
+  d₁ = digit (n / 256 / 16) (omega arith)
+
+  d₂ : Digit (n / 256 % 16)
+  d₂ = digit (n / 256 % 16) (omega arith)
+
+  d₃ : Digit (n % 256 / 16)
+  d₃ = digit (n % 256 / 16) (omega arith)
+
+  d₄ : Digit (n % 256 % 16)
+  d₄ = digit (n % 256 % 16) (omega arith)
+
+  words-digits : wordsOf (digits n) ≡ digits n ∷ []
+  unfolding wordsOf
+  words-digits = rw (d₁ .apart, d₂ .apart, d₃ .apart, d₄ .apart)
+
+  words-digits-more : (w : List ℕ) → wordsOf (digits n ++ 32 ∷ w) ≡ digits n ∷ wordsOf w
+  unfolding wordsOf
+  words-digits-more w = rw (d₁ .apart, d₂ .apart, d₃ .apart, d₄ .apart)
+
+  argument-digits : argumentOf (digits n) ≡ Value n
+  unfolding argumentOf
+  argument-digits =
+      rw (d₁ .is, d₂ .is, d₃ .is, d₄ .is) (ap Value (rw (d₁ .value, d₂ .value, d₃ .value, d₄ .value) (omega arith)))
+
+  all-digits : (w : List ℕ) → all printable (digits n ++ w) ≡ all printable w
+  all-digits w = rw (d₁ .shown, d₂ .shown, d₃ .shown, d₄ .shown)
+
+-- ---- a line for each command
+
+abbrev bit : Bool → ℕ
+bit true = 1
+bit false = 0
+
+abbrev lineFor : Command → List ℕ
+lineFor (Limhi n) = text "limhi " ++ digits n
+lineFor (Eonly b) = text "eonly " ++ digits (bit b)
+lineFor (Toferror b) = text "toferror " ++ digits (bit b)
+lineFor (Junk b) = text "junk " ++ digits (bit b)
+lineFor (Hv b) = text "hv " ++ digits (bit b)
+lineFor (Hvstep n) = text "hvstep " ++ digits n
+lineFor (Load a y) = text "load " ++ (digits a ++ 32 ∷ digits y)
+
+-- a keyword and one number
+one-number : (k : List ℕ) (n reach : ℕ) → n < 65536 → ofWords (k ∷ wordsOf (digits n)) reach ≡ withOne k n reach
+unfolding ofWords oneArgument
+one-number k n reach h = rw (words-digits n h) (ap (λ (a : Argument). oneArgument k a reach) (argument-digits n h))
+
+-- and two
+two-numbers : (k : List ℕ) (a y reach : ℕ) → a < 65536 → y < 65536 → ofWords (k ∷ wordsOf (digits a ++ 32 ∷ digits y)) reach ≡ withTwo k a y reach
+unfolding ofWords twoArguments
+two-numbers k a y reach h g =
+    rw (words-digits-more a h (digits y), words-digits y g)
+    (λ i. twoArguments k (argument-digits a h i) (argument-digits y g i) reach)
+
+gives : (c : Command) (reach : ℕ) → commandOk c reach ≡ true → lineOf (lineFor c) reach ≡ Waits c
+unfolding lineOf wordsOf withOne withTwo look same rightIf
+gives (Limhi n) reach h = one-number (text "limhi") n reach (omega (arith, leb-true n 704 h)) ∙ rw h
+gives (Eonly true) reach h = one-number (text "eonly") 1 reach (omega arith)
+gives (Eonly false) reach h = one-number (text "eonly") 0 reach (omega arith)
+gives (Toferror true) reach h = one-number (text "toferror") 1 reach (omega arith)
+gives (Toferror false) reach h = one-number (text "toferror") 0 reach (omega arith)
+gives (Junk true) reach h = one-number (text "junk") 1 reach (omega arith)
+gives (Junk false) reach h = one-number (text "junk") 0 reach (omega arith)
+gives (Hv true) reach h = one-number (text "hv") 1 reach (omega arith)
+gives (Hv false) reach h = one-number (text "hv") 0 reach (omega arith)
+gives (Hvstep n) reach h = one-number (text "hvstep") n reach (omega (arith, leb-true n 255 h)) ∙ rw h
+gives (Load a y) reach h =
+    let l = lawful-is a y reach h in
+    two-numbers (text "load") a y reach (omega arith) (omega arith) ∙ rw h
+
+line-bytes : (c : Command) (reach : ℕ) → commandOk c reach ≡ true → bytesOk (lineFor c) ≡ true
+line-bytes (Limhi n) reach h = all-digits n (omega (arith, leb-true n 704 h)) []
+line-bytes (Eonly true) reach h = refl
+line-bytes (Eonly false) reach h = refl
+line-bytes (Toferror true) reach h = refl
+line-bytes (Toferror false) reach h = refl
+line-bytes (Junk true) reach h = refl
+line-bytes (Junk false) reach h = refl
+line-bytes (Hv true) reach h = refl
+line-bytes (Hv false) reach h = refl
+line-bytes (Hvstep n) reach h = all-digits n (omega (arith, leb-true n 255 h)) []
+line-bytes (Load a y) reach h =
+    let l = lawful-is a y reach h in
+    all-digits a (omega arith) (32 ∷ digits y) ∙ all-digits y (omega arith) []
+
+-- a command that is ok is what some line gives
+pub ok-given : (c : Command) (reach : ℕ) → commandOk c reach ≡ true → (line : List ℕ) × ((bytesOk line ≡ true) × (lineOf line reach ≡ Waits c))
+ok-given c reach h = (lineFor c, (line-bytes c reach h, gives c reach h))

@@ -1,0 +1,63 @@
+use Prim.Native.Nat.{_≤_, _-_}
+use mathlib.Core.Path.{_≡_, sym, _∙_}
+use native.Mathlib.Omega.{arith}
+use lib.ListN.{length, drop}
+use denote.Ref.{now}
+use borrow.Author.Tests.{not-true, not-false}
+use Rattle.wire.specs.Lists.{all}
+use Rattle.wire.proofs.Lists.{all-stop, all-step, all-end}
+use Rattle.command.specs.Grammar.{isDigit}
+use borrow.Author.Needs.{needs}
+use Rattle.command.proofs.argument.all_digits.Statement.{statement}
+use Rattle.command.proofs.argument.all_digits.Tie as tie
+
+abbrev Inv-loop : tie.InvT-loop
+Inv-loop w i₀ i = (i ≤ length w) × (all isDigit w ≡ all isDigit (drop i w))
+
+abbrev μ-loop : tie.MeasureT-loop
+μ-loop w i₀ i = length w - i
+
+loop-holds : tie.Need-loop-holds Inv-loop μ-loop
+loop-holds c = search needs
+
+shared-slice-read-is-digit : tie.Need-shared-slice-read-is-digit Inv-loop μ-loop
+shared-slice-read-is-digit c = search needs
+
+is-digit-requires : tie.Need-is-digit-requires Inv-loop μ-loop
+is-digit-requires c κs = search needs
+
+returns : tie.Need-returns Inv-loop μ-loop
+returns c =
+    let l = c .before .before .before .before in
+    sym (all-stop isDigit (now (l .before .before .args .w)) 0 (l .loop .i) (omega arith) (sym (c .before .is-digit .ensures) ∙ not-true _ (c .if1 .taken)) (l .loop .inv .1))
+
+add-i : tie.Need-add-i Inv-loop μ-loop
+add-i c = search needs
+
+loop-less : tie.Need-loop-less Inv-loop μ-loop
+loop-less c = search needs
+
+loop-again : tie.Need-loop-again Inv-loop μ-loop
+loop-again c =
+    let l = c .before .before .before .before in
+    (omega arith, all-step isDigit (now (l .before .before .args .w)) 0 (l .loop .i) (omega arith) (sym (c .before .is-digit .ensures) ∙ not-false _ (c .if1 .left)) (l .loop .inv .1))
+
+returns-2 : tie.Need-returns-2 Inv-loop μ-loop
+returns-2 c =
+    let l = c .before in
+    sym (all-end isDigit (now (l .before .before .args .w)) 0 (l .loop .i) (omega arith) (l .loop .inv .1))
+
+pub all-digits-spec : {M : Type 1} → statement M
+all-digits-spec =
+    tie.close
+    (tie.spec
+    Inv-loop
+    μ-loop
+    loop-holds
+    shared-slice-read-is-digit
+    is-digit-requires
+    returns
+    add-i
+    loop-less
+    loop-again
+    returns-2)

@@ -1,0 +1,22 @@
+use borrow.Author.Tests.{le-leb, lt-leb}
+use Rattle.command.specs.Grammar.{rightIf}
+use borrow.Author.Needs.{needs}
+use Rattle.command.proofs.keyword.hvstep.Statement.{statement}
+use Rattle.command.proofs.keyword.hvstep.Tie as tie
+
+cast-if1 : tie.Need-cast-if1
+cast-if1 c = search needs
+
+cast-t5 : tie.Need-cast-t5
+cast-t5 c = search needs
+
+returns : tie.Need-returns
+unfolding rightIf
+returns c = simp (le-leb _ _ (c .if1 .taken))
+
+returns-2 : tie.Need-returns-2
+unfolding rightIf
+returns-2 c = simp (lt-leb _ _ (c .if1 .left))
+
+pub hvstep-spec : {M : Type 1} → statement M
+hvstep-spec = tie.close (tie.spec cast-if1 cast-t5 returns returns-2)

@@ -1,0 +1,31 @@
+use mathlib.Core.Path.{sym, ap, _∙_}
+use denote.Ref.{now}
+use Rattle.command.specs.declared.argument.Argument.{Argument}
+use Rattle.command.specs.Grammar.{oneArgument}
+use borrow.Author.Needs.{needs}
+use Rattle.command.proofs.keyword.one_argument.Statement.{statement}
+use Rattle.command.proofs.keyword.one_argument.Tie as tie
+
+enum-known-n : tie.Need-enum-known-n
+enum-known-n c = search needs
+
+with-one-requires : tie.Need-with-one-requires
+with-one-requires c κs = search needs
+
+enum-told : tie.Need-enum-told
+enum-told c = search needs
+
+returns : tie.Need-returns
+unfolding oneArgument
+returns c =
+    let s = c .before .before .before .before .before in
+    c .with-one .ensures ∙ sym (ap (λ (x : Argument). oneArgument (now (s .args .keyword)) x (s .args .reach)) (c .before .before .n .given .1))
+
+returns-2 : tie.Need-returns-2
+unfolding oneArgument
+returns-2 c =
+    let s = c .before .before .before in
+    sym (ap (λ (x : Argument). oneArgument (now (s .args .keyword)) x (s .args .reach)) (c .enum-told .given .1))
+
+pub one-argument-spec : {M : Type 1} → statement M
+one-argument-spec = tie.close (tie.spec enum-known-n with-one-requires enum-told returns returns-2)

@@ -1,0 +1,55 @@
+use mathlib.Core.Path.{sym, ap, _∙_}
+use denote.Ref.{now}
+use Rattle.command.specs.declared.argument.Argument.{Argument}
+use Rattle.command.specs.Grammar.{twoArguments}
+use borrow.Author.Needs.{needs}
+use Rattle.command.proofs.keyword.two_arguments.Statement.{statement}
+use Rattle.command.proofs.keyword.two_arguments.Tie as tie
+
+enum-known-n : tie.Need-enum-known-n
+enum-known-n c = search needs
+
+enum-known-m : tie.Need-enum-known-m
+enum-known-m c = search needs
+
+with-two-requires : tie.Need-with-two-requires
+with-two-requires c κs = search needs
+
+enum-told : tie.Need-enum-told
+enum-told c = search needs
+
+enum-told-2 : tie.Need-enum-told-2
+enum-told-2 c = search needs
+
+returns : tie.Need-returns
+unfolding twoArguments
+returns c =
+    let n = c .before .before .before .before .before in
+    let s = n .before .before .before .args in
+    c .with-two .ensures ∙ sym (λ i. twoArguments (now (s .keyword)) (n .n .given .1 i) (c .before .before .m .given .1 i) (s .reach))
+
+returns-2 : tie.Need-returns-2
+unfolding twoArguments
+returns-2 c =
+    let n = c .before .before .before in
+    let s = n .before .before .before .args in
+    sym (λ i. twoArguments (now (s .keyword)) (n .n .given .1 i) (c .enum-told .given .1 i) (s .reach))
+
+returns-3 : tie.Need-returns-3
+unfolding twoArguments
+returns-3 c =
+    let s = c .before .before .before in
+    sym (ap (λ (x : Argument). twoArguments (now (s .args .keyword)) x (s .args .m) (s .args .reach)) (c .enum-told2 .given .1))
+
+pub two-arguments-spec : {M : Type 1} → statement M
+two-arguments-spec =
+    tie.close
+    (tie.spec
+    enum-known-n
+    enum-known-m
+    with-two-requires
+    enum-told
+    enum-told-2
+    returns
+    returns-2
+    returns-3)

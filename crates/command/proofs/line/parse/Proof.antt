@@ -1,0 +1,137 @@
+use Prim.Native.Nat.{ℕ, _+_, _-_}
+use mathlib.Core.Path.{_≡_, sym, ap, _∙_}
+use mathlib.Core.List.{List}
+use lib.ListN.{length, take, drop}
+use Rattle.wire.proofs.Bytes.{length-part}
+use Rattle.command.specs.declared.argument.Argument.{Argument}
+use native.Mathlib.Omega.{arith}
+use borrow.Author.Tests.{eq-eqb}
+use lib.Seq.{length-take-le}
+use denote.Ref.{now}
+use Rattle.command.specs.Grammar.{oneArgument, twoArguments, lineOf}
+use Rattle.command.proofs.WordLaws.{line-bare, line-one, line-two, rest-is}
+use borrow.Author.Needs.{needs}
+use Rattle.command.proofs.line.parse.Statement.{statement}
+use Rattle.command.proofs.line.parse.Tie as tie
+
+returns : tie.Need-returns
+unfolding lineOf
+returns c = rw (eq-eqb _ _ (c .if1 .taken))
+
+word-length-requires : tie.Need-word-length-requires
+word-length-requires c κs = search needs
+
+returns-2 : tie.Need-returns-2
+returns-2 c =
+    let s = c .before .before .before .before .args in
+    sym (line-bare (now (s .line)) (s .reach) (c .before .word-length .result) (c .before .before .if1 .left) (c .before .word-length .ensures .0) (c .if2 .taken))
+
+slice-aggregate-keyword : tie.Need-slice-aggregate-keyword
+slice-aggregate-keyword c = sym (length-take-le _ _ (omega arith))
+
+add-rest : tie.Need-add-rest
+add-rest c = search needs
+
+sub-rest : tie.Need-sub-rest
+sub-rest c = search needs
+
+part-rest-start : tie.Need-part-rest-start
+part-rest-start c = search needs
+
+part-rest-end : tie.Need-part-rest-end
+part-rest-end c = search needs
+
+word-length-requires-2 : tie.Need-word-length-requires-2
+word-length-requires-2 c κs = search needs
+
+argument-of-requires : tie.Need-argument-of-requires
+argument-of-requires c κs = search needs
+
+one-argument-requires : tie.Need-one-argument-requires
+one-argument-requires c κs = search needs
+
+returns-3 : tie.Need-returns-3
+returns-3 c =
+    let t = c .before .before in
+    let w2 = t .before in
+    let e2 = w2 .before .before .before in
+    let w1 = e2 .before in
+    let e1 = w1 .before in
+    let s = e1 .before .before .args in
+    let line = now (s .line) in
+    let k = w1 .word-length .result in
+    let rest : List ℕ = take (length line - (k + 1)) (drop (k + 1) line) in
+    let lr : length rest ≡ length line - (k + 1) = length-part line (k + 1) (length line - (k + 1)) (omega arith) in
+    c .one-argument .ensures
+    ∙ ap (λ (a : Argument). oneArgument (take k line) a (s .reach)) (c .before .argument-of .ensures)
+    ∙ sym (line-one line (s .reach) k (e1 .if1 .left) (w1 .word-length .ensures .0) rest (rest-is line (k + 1)) (e2 .if2 .left) (omega arith))
+
+slice-aggregate-argument-of : tie.Need-slice-aggregate-argument-of
+slice-aggregate-argument-of c = sym (length-take-le _ _ (omega arith))
+
+argument-of-requires-2 : tie.Need-argument-of-requires-2
+argument-of-requires-2 c κs = search needs
+
+add-argument-of : tie.Need-add-argument-of
+add-argument-of c = search needs
+
+sub-argument-of : tie.Need-sub-argument-of
+sub-argument-of c = search needs
+
+part-argument-of-start : tie.Need-part-argument-of-start
+part-argument-of-start c = search needs
+
+part-argument-of-end : tie.Need-part-argument-of-end
+part-argument-of-end c = search needs
+
+argument-of-requires-3 : tie.Need-argument-of-requires-3
+argument-of-requires-3 c κs = search needs
+
+two-arguments-requires : tie.Need-two-arguments-requires
+two-arguments-requires c κs = search needs
+
+returns-4 : tie.Need-returns-4
+returns-4 c =
+    let a3 = c .before in
+    let a2 = a3 .before .before in
+    let e3 = a2 .before .before in
+    let w2 = e3 .before in
+    let e2 = w2 .before .before .before in
+    let w1 = e2 .before in
+    let e1 = w1 .before in
+    let s = e1 .before .before .args in
+    let line = now (s .line) in
+    let k = w1 .word-length .result in
+    let m = w2 .word-length2 .result in
+    let rest : List ℕ = take (length line - (k + 1)) (drop (k + 1) line) in
+    let lr : length rest ≡ length line - (k + 1) = length-part line (k + 1) (length line - (k + 1)) (omega arith) in
+    let last : List ℕ = take (length rest - (m + 1)) (drop (m + 1) rest) in
+    c .two-arguments .ensures
+    ∙ (λ i. twoArguments (take k line) (a2 .argument-of2 .ensures i) (a3 .argument-of3 .ensures i) (s .reach))
+    ∙ sym (line-two line (s .reach) k (e1 .if1 .left) (w1 .word-length .ensures .0) rest (rest-is line (k + 1)) (e2 .if2 .left) m last (w2 .word-length2 .ensures .0) (rest-is rest (m + 1)) (omega arith))
+
+pub parse-spec : {M : Type 1} → statement M
+parse-spec =
+    tie.close
+    (tie.spec
+    returns
+    word-length-requires
+    returns-2
+    slice-aggregate-keyword
+    add-rest
+    sub-rest
+    part-rest-start
+    part-rest-end
+    word-length-requires-2
+    argument-of-requires
+    one-argument-requires
+    returns-3
+    slice-aggregate-argument-of
+    argument-of-requires-2
+    add-argument-of
+    sub-argument-of
+    part-argument-of-start
+    part-argument-of-end
+    argument-of-requires-3
+    two-arguments-requires
+    returns-4)

@@ -1,0 +1,133 @@
+-- Command lines (document 01, "Commands and loads"). Assumes nothing.
+use Prim.Native.Nat.{ℕ, _+_, _-_, _*_}
+use Prim.Native.Char.{code}
+use Prim.Native.String.{String}
+use mathlib.Core.Bool.{Bool, true, _&&_, _||_, cond}
+use mathlib.Core.List.{List, [], _∷_}
+use lib.Dec.{leb, eqb}
+use lib.ListN.{length}
+use Rattle.wire.specs.Lists.{all}
+use Rattle.command.specs.Text.{text, same}
+use Rattle.load.specs.Load.{loadLawful}
+use Rattle.command.specs.declared.command.Command.{Command}
+use Rattle.command.specs.declared.command.Command.the-variants.{Limhi, Eonly, Toferror, Junk, Hv, Hvstep, Load}
+use Rattle.command.specs.declared.command.Line.{Line}
+use Rattle.command.specs.declared.command.Line.the-variants.{Empty, Wrong, Waits, LoadZero, LoadAt}
+use Rattle.command.specs.declared.argument.Argument.{Argument}
+use Rattle.command.specs.declared.argument.Argument.the-variants.{Value, Malformed}
+
+-- ---- bytes
+
+-- "each 32 to 126"
+abbrev pub printable : ℕ → Bool
+printable b = leb 32 b && leb b 126
+
+-- "A line has up to 80 bytes, each 32 to 126, without terminator"
+abbrev pub bytesOk : List ℕ → Bool
+bytesOk line = leb (length line) 80 && all printable line
+
+-- ---- words
+
+abbrev pub space : ℕ
+space = code " "
+
+-- a byte put before the first word
+abbrev pub onto : ℕ → List (List ℕ) → List (List ℕ)
+onto b [] = (b ∷ []) ∷ []
+onto b (w ∷ ws) = (b ∷ w) ∷ ws
+
+-- the words of a line: what stands between its spaces. Two spaces together have an empty word between them, and a space
+-- at an end has one beside it
+unfoldable pub wordsOf : List ℕ → List (List ℕ)
+wordsOf [] = [] ∷ []
+wordsOf (b ∷ bs) = cond (eqb b space) ([] ∷ wordsOf bs) (onto b (wordsOf bs))
+
+-- ---- arguments
+
+-- "digits 0-9 a-f"
+abbrev pub isDigit : ℕ → Bool
+isDigit b = (leb (code "0") b && leb b (code "9")) || (leb (code "a") b && leb b (code "f"))
+
+-- 0 to 15
+abbrev pub digitValue : ℕ → ℕ
+digitValue b = cond (leb b (code "9")) (b - code "0") (b - code "a" + 10)
+
+-- the number n with digits behind it: sixteen times what stands before a digit, and the digit's value
+abbrev pub hexBehind : ℕ → List ℕ → ℕ
+hexBehind n [] = n
+hexBehind n (d ∷ ds) = hexBehind (16 * n + digitValue d) ds
+
+-- "Addresses and command arguments are hexadecimal"
+abbrev pub hexValue : List ℕ → ℕ
+hexValue w = hexBehind 0 w
+
+-- "arguments of one to six digits 0-9 a-f"
+unfoldable pub argumentOf : List ℕ → Argument
+argumentOf w = cond (leb 1 (length w) && leb (length w) 6 && all isDigit w) (Value (hexValue w)) Malformed
+
+-- ---- keywords and ranges
+
+-- the line, where its argument is in its range
+unfoldable pub rightIf : Bool → Line → Line
+rightIf ok l = cond ok l Wrong
+
+-- the entry of a table of keywords for k; an unknown keyword makes a wrong line
+unfoldable pub look : List ℕ → List (String × Line) → Line
+look k [] = Wrong
+look k (e ∷ es) = cond (same k (text (e .0))) (e .1) (look k es)
+
+-- the keywords that take one argument, n: "limhi (0 to 2c0), eonly, toferror, junk, hv (0 or 1), hvstep (0 to ff) .. load 0
+-- (one argument of value 0; any other single one is wrong), loadat a"; "loadat a needs a ≤ reach"
+abbrev pub keywords : ℕ → ℕ → List (String × Line)
+keywords n reach =
+    ("limhi", rightIf (leb n 0x2c0) (Waits (Limhi n)))
+    ∷ ("eonly", rightIf (leb n 1) (Waits (Eonly (eqb n 1))))
+    ∷ ("toferror", rightIf (leb n 1) (Waits (Toferror (eqb n 1))))
+    ∷ ("junk", rightIf (leb n 1) (Waits (Junk (eqb n 1))))
+    ∷ ("hv", rightIf (leb n 1) (Waits (Hv (eqb n 1))))
+    ∷ ("hvstep", rightIf (leb n 0xff) (Waits (Hvstep n)))
+    ∷ ("load", rightIf (eqb n 0) LoadZero)
+    ∷ ("loadat", rightIf (leb n reach) (LoadAt n))
+    ∷ []
+
+unfoldable pub withOne : List ℕ → ℕ → ℕ → Line
+withOne k n reach = look k (keywords n reach)
+
+-- the one that takes two: "load a y .. needs reach ≥ 1 and all words in 7000 to C202, judged when the line comes"
+unfoldable pub withTwo : List ℕ → ℕ → ℕ → ℕ → Line
+withTwo k a y reach = look k (("load", rightIf (loadLawful a y reach) (Waits (Load a y))) ∷ [])
+
+-- ---- lines
+
+-- a keyword with an argument
+unfoldable pub oneArgument : List ℕ → Argument → ℕ → Line
+oneArgument k Malformed reach = Wrong
+oneArgument k (Value n) reach = withOne k n reach
+
+-- a keyword with two
+unfoldable pub twoArguments : List ℕ → Argument → Argument → ℕ → Line
+twoArguments k Malformed b reach = Wrong
+twoArguments k (Value n) Malformed reach = Wrong
+twoArguments k (Value n) (Value m) reach = withTwo k n m reach
+
+-- "a keyword, then arguments .., one space before each": the first word is the keyword, the others the arguments
+unfoldable pub ofWords : List (List ℕ) → ℕ → Line
+ofWords [] reach = Wrong
+ofWords (k ∷ []) reach = Wrong
+ofWords (k ∷ a ∷ []) reach = oneArgument k (argumentOf a) reach
+ofWords (k ∷ a ∷ b ∷ []) reach = twoArguments k (argumentOf a) (argumentOf b) reach
+ofWords (k ∷ a ∷ b ∷ c ∷ ws) reach = Wrong
+
+-- what a line is, at this reach: "Empty line: .. it answers 0 and is no command"
+unfoldable pub lineOf : List ℕ → ℕ → Line
+lineOf line reach = cond (eqb (length line) 0) Empty (ofWords (wordsOf line) reach)
+
+-- whether some line gives this command at this reach ("a waiting command that no line could give" is cause 1)
+abbrev pub commandOk : Command → ℕ → Bool
+commandOk (Limhi n) reach = leb n 0x2c0
+commandOk (Eonly b) reach = true
+commandOk (Toferror b) reach = true
+commandOk (Junk b) reach = true
+commandOk (Hv b) reach = true
+commandOk (Hvstep n) reach = leb n 0xff
+commandOk (Load a y) reach = loadLawful a y reach

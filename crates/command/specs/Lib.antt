@@ -1,0 +1,5 @@
+pub mod Change
+pub mod Echo
+pub mod Grammar
+pub mod Parsing
+pub mod Text

@@ -1,0 +1,60 @@
+// Command lines.
+ghost use mathlib.Core.Path.{_≡_};
+ghost use Rattle.wire.specs.Lists.{all};
+ghost use Rattle.command.specs.Grammar.{printable, bytesOk, lineOf};
+use crate::argument::argument_of;
+use crate::command::Line;
+use crate::keyword::one_argument;
+use crate::keyword::two_arguments;
+use crate::words::word_length;
+
+pub const MAX_LINE: usize = 80;
+
+fn is_printable(b: u8) -> bool
+    ensures { λ r. ⌜ r ≡ printable b ⌝ }
+{
+    (32 <= b) & (b <= 126)
+}
+
+fn all_printable(line: &[u8]) -> bool
+    ensures { λ r. ⌜ r ≡ all printable (now (line .entry)) ⌝ }
+{
+    let mut i: usize = 0;
+    while i < line.len() {
+        if !is_printable(line[i]) {
+            return false;
+        }
+        i += 1;
+    }
+    true
+}
+
+// Whether the line has no more bytes than it may, and no others than it may.
+pub fn bytes_ok(line: &[u8]) -> bool
+    ensures { λ r. ⌜ r ≡ bytesOk (now (line .entry)) ⌝ }
+{
+    let printable = all_printable(line);
+    (line.len() <= MAX_LINE) & printable
+}
+
+// What the line is, at this reach.
+pub fn parse(line: &[u8], reach: u32) -> Line
+    ensures { λ r. ⌜ r ≡ lineOf (now (line .entry)) reach ⌝ }
+{
+    if line.len() == 0 {
+        return Line::Empty;
+    }
+    let k = word_length(line);
+    if line.len() <= k {
+        return Line::Wrong;
+    }
+    let keyword = &line[..k];
+    let rest = &line[k + 1..];
+    let m = word_length(rest);
+    if rest.len() <= m {
+        return one_argument(keyword, argument_of(rest), reach);
+    }
+    let first = argument_of(&rest[..m]);
+    let second = argument_of(&rest[m + 1..]);
+    two_arguments(keyword, first, second, reach)
+}

@@ -1,0 +1,202 @@
+// One case: a kind byte, and its body.
+ghost use mathlib.Core.Path.{_≡_};
+ghost use mathlib.Core.Bool.{true};
+ghost use Prim.Native.Nat.{_≤_};
+ghost use Rattle.load.specs.Load.{loadLawful};
+ghost use Rattle.load.specs.Staging.{placeable};
+use crate::output;
+use command::echo;
+use command::line::MAX_LINE;
+use load::staging;
+use wire::read::u16_at;
+use wire::read::u24_at;
+use wire::read::u32_at;
+
+const TABLE_BYTES: usize = 62985;
+
+// 1: the reach in three bytes, and the line. Prints whether its bytes are right, and what it is.
+fn line_case(body: &[u8]) {
+    if body.len() < 3 {
+        return;
+    }
+    let line = &body[3..];
+    output::text(b"line ");
+    if command::line::bytes_ok(line) {
+        output::text(b"bytes ok, ");
+    } else {
+        output::text(b"bytes wrong, ");
+    }
+    output::line(command::line::parse(line, u24_at(body, 0)));
+}
+
+fn show(echo: &[u8]) {
+    output::text(b"echo ");
+    output::bytes(echo);
+}
+
+// 2: the frame in two bytes, the sequence number, and the line. Prints the echo.
+fn accepted_case(body: &[u8]) {
+    if body.len() < 3 {
+        return;
+    }
+    let line = &body[3..];
+    if MAX_LINE < line.len() {
+        return;
+    }
+    let mut buffer = [255u8; 128];
+    echo::write_accepted(&mut buffer, u16_at(body, 0), body[2], line);
+    show(&buffer);
+}
+
+// 3: the line.
+fn refused_case(body: &[u8]) {
+    if MAX_LINE < body.len() {
+        return;
+    }
+    let mut buffer = [255u8; 128];
+    echo::write_refused(&mut buffer, body);
+    show(&buffer);
+}
+
+// 4: nothing.
+fn prompt_case() {
+    let mut buffer = [255u8; 128];
+    echo::write_prompt(&mut buffer);
+    show(&buffer);
+}
+
+// 5: the address and the bytes placed, four bytes each.
+fn right_case(body: &[u8]) {
+    if body.len() < 8 {
+        return;
+    }
+    let mut buffer = [255u8; 128];
+    echo::write_package_ok(&mut buffer, u32_at(body, 0), u32_at(body, 4));
+    show(&buffer);
+}
+
+// 6: the same, and the received and the computed sum, two bytes each.
+fn sum_case(body: &[u8]) {
+    if body.len() < 12 {
+        return;
+    }
+    let mut buffer = [255u8; 128];
+    echo::write_package_error(
+        &mut buffer,
+        u32_at(body, 0),
+        u32_at(body, 4),
+        u16_at(body, 8),
+        u16_at(body, 10),
+    );
+    show(&buffer);
+}
+
+// Bytes that differ from place to place.
+fn fill(part: &mut [u8], step: u32) {
+    let mut i: usize = 0;
+    let mut v: u32 = 7;
+    while i < part.len() {
+        v = next_value(v, step);
+        part[i] = v as u8;
+        i += 1;
+    }
+}
+
+fn next_value(v: u32, step: u32) -> u32
+    requires { ⌜ v ≤ 250 ⌝ }
+    ensures { λ r. ⌜ r ≤ 250 ⌝ }
+{
+    (3 * v + step % 256) % 251
+}
+
+// 7: next address and reach, three bytes each, and the package. Prints its number, the bytes placed, the two sums, the
+// addresses afterwards and a digest of staging.
+fn package_case(body: &[u8]) {
+    if body.len() < 6 {
+        return;
+    }
+    let next = u24_at(body, 0);
+    let reach = u24_at(body, 3);
+    let p = &body[6..];
+    let n = staging::judge(p, next);
+    output::text(b"package ");
+    output::number(n as u32);
+    if n == staging::NOT_FORMED {
+        return;
+    }
+    if n == staging::PAST_END {
+        return;
+    }
+    place(p, next, reach);
+}
+
+fn place(p: &[u8], next: u32, reach: u32)
+    requires { ⌜ placeable (now p) next ≡ true ⌝ }
+{
+    let mut area = [0u8; TABLE_BYTES];
+    fill(&mut area, 5);
+    let after = staging::place(&mut area, next, reach, p);
+    output::text(b" placed ");
+    output::number(staging::placed(p));
+    output::text(b" sums ");
+    output::number(staging::received_sum(p) as u32);
+    output::text(b" ");
+    output::number(staging::computed_sum(p) as u32);
+    output::text(b" next ");
+    output::number(after.next);
+    output::text(b" reach ");
+    output::number(after.reach);
+    output::text(b" staging ");
+    output::number(output::digest(&area));
+}
+
+// 8: the address in three bytes, how to pack, and the reach in three bytes. Prints whether the load is lawful, and
+// then digests of the tables before and after it, and its first word.
+fn load_case(body: &[u8]) {
+    if body.len() < 7 {
+        return;
+    }
+    let a = u24_at(body, 0);
+    let y = body[3];
+    let reach = u24_at(body, 4);
+    if load::words::load_lawful(a, y, reach) {
+        output::text(b"load lawful ");
+        run(a, y, reach);
+    } else {
+        output::text(b"load unlawful");
+    }
+}
+
+fn run(a: u32, y: u8, reach: u32)
+    requires { ⌜ loadLawful a y reach ≡ true ⌝ }
+{
+    let mut area = [0u8; TABLE_BYTES];
+    let mut lookup = [0u8; TABLE_BYTES];
+    fill(&mut area, 5);
+    fill(&mut lookup, 11);
+    output::number(output::digest(&lookup));
+    load::run::run_load(&mut lookup, &area, a, y, reach);
+    output::text(b" ");
+    output::number(output::digest(&lookup));
+    output::text(b" first ");
+    output::word(tables::word(&lookup, a as usize));
+}
+
+pub fn case(bytes: &[u8]) {
+    if bytes.len() < 1 {
+        return;
+    }
+    let body = &bytes[1..];
+    match bytes[0] {
+        1 => line_case(body),
+        2 => accepted_case(body),
+        3 => refused_case(body),
+        4 => prompt_case(),
+        5 => right_case(body),
+        6 => sum_case(body),
+        7 => package_case(body),
+        8 => load_case(body),
+        _ => output::text(b"no case"),
+    }
+    output::text(b"\n");
+}

@@ -1,0 +1,97 @@
+// What the program prints.
+ghost use Prim.Native.Nat.{_<_};
+use command::command::Command;
+use command::command::Line;
+use io::print_decimal;
+use io::print_hex;
+
+pub fn text(s: &[u8]) {
+    io::write_all(1, s);
+}
+
+pub fn number(n: u32) {
+    print_decimal(1, n as u64);
+}
+
+fn byte(b: u8) {
+    print_hex(1, b as u64, 2);
+}
+
+// A word of the tables in six digits.
+pub fn word(w: u32) {
+    print_hex(1, w as u64, 6);
+}
+
+// Each byte in two digits.
+pub fn bytes(part: &[u8]) {
+    let mut i: usize = 0;
+    while i < part.len() {
+        byte(part[i]);
+        i += 1;
+    }
+}
+
+fn flag(name: &[u8], b: bool) {
+    text(name);
+    if b {
+        text(b" 1");
+    } else {
+        text(b" 0");
+    }
+}
+
+fn waiting(c: Command) {
+    match c {
+        Command::Limhi(n) => {
+            text(b"limhi ");
+            number(n as u32);
+        }
+        Command::Eonly(b) => flag(b"eonly", b),
+        Command::Toferror(b) => flag(b"toferror", b),
+        Command::Junk(b) => flag(b"junk", b),
+        Command::Hv(b) => flag(b"hv", b),
+        Command::Hvstep(n) => {
+            text(b"hvstep ");
+            number(n as u32);
+        }
+        Command::Load(a, y) => {
+            text(b"load ");
+            number(a);
+            text(b" ");
+            number(y as u32);
+        }
+    }
+}
+
+pub fn line(l: Line) {
+    match l {
+        Line::Empty => text(b"empty"),
+        Line::Wrong => text(b"wrong"),
+        Line::Waits(c) => waiting(c),
+        Line::LoadZero => text(b"load 0"),
+        Line::LoadAt(a) => {
+            text(b"loadat ");
+            number(a);
+        }
+    }
+}
+
+// A number that depends on each byte and its place.
+pub fn digest(part: &[u8]) -> u32
+    ensures { λ r. ⌜ r < 65521 ⌝ }
+{
+    let mut h: u32 = 0;
+    let mut i: usize = 0;
+    while i < part.len() {
+        h = mixed(h, part[i]);
+        i += 1;
+    }
+    h
+}
+
+fn mixed(h: u32, b: u8) -> u32
+    requires { ⌜ h < 65521 ⌝ }
+    ensures { λ r. ⌜ r < 65521 ⌝ }
+{
+    (31 * h + b as u32) % 65521
+}

@@ -1,0 +1,42 @@
+use borrow.Author.Needs.{needs}
+use mathlib.Core.Path.{sym, _∙_}
+use native.Mathlib.Omega.{arith}
+use Rattle.ground.proofs.Answers.{samples-length}
+use Rattle.ground.specs.Ground.{recordsOf}
+use Rattle.ground.proofs.records.Statement.{statement}
+use Rattle.ground.proofs.records.Tie as tie
+
+samples-in-requires : tie.Need-samples-in-requires
+samples-in-requires c κs = search needs
+
+sub-result : tie.Need-sub-result
+sub-result c = search needs
+
+part-result-start : tie.Need-part-result-start
+part-result-start c = search needs
+
+part-result-end : tie.Need-part-result-end
+part-result-end c = omega (arith, samples-length _ (sym (c .before .samples-in .ensures) ∙ c .if1 .taken))
+
+slice-aggregate-result : tie.Need-slice-aggregate-result
+slice-aggregate-result c = search needs
+
+returns : tie.Need-returns
+unfolding recordsOf
+returns c = rw (sym (c .before .before .samples-in .ensures) ∙ c .before .if1 .taken)
+
+returns-2 : tie.Need-returns-2
+unfolding recordsOf
+returns-2 c = rw (sym (c .before .before .samples-in .ensures) ∙ c .before .if1 .left)
+
+pub records-spec : {M : Type 1} → statement M
+records-spec =
+    tie.close
+    (tie.spec
+    samples-in-requires
+    sub-result
+    part-result-start
+    part-result-end
+    slice-aggregate-result
+    returns
+    returns-2)

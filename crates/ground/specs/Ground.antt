@@ -1,0 +1,77 @@
+-- What the ground reader answers for any bytes (document 01, "Packets" and "What is handed on"). Assumes nothing.
+use Prim.Native.Nat.{ℕ}
+use mathlib.Core.Bool.{Bool, true, false, cond, _&&_}
+use mathlib.Core.List.{List, []}
+use lib.Dec.{eqb}
+use lib.ListN.{take, drop}
+use Rattle.wire.specs.Bytes.{zeros}
+use Rattle.settings.specs.declared.Settings.{Settings}
+use Rattle.packet.specs.declared.kind.Kind.{Kind}
+use Rattle.packet.specs.declared.kind.Kind.the-variants.{Rate, Sample, Beacon, None}
+use Rattle.packet.specs.Read.{applicationOf, sequenceOf, timeOf, frameOf, markOf, kindOf, ratesOf, settingsOf, sumOf, readNumber}
+use Rattle.ground.specs.declared.Packet.{Packet}
+
+-- settings of zeros
+abbrev pub noSettings : Settings
+noSettings = record { limhi = 0; eonly = false; toferror = false; junk = false; hv = false; hvstep = 0 }
+
+-- a refused packet: "otherwise the lowest number that applies is given, and the result's fields other than the state are zero"
+unfoldable pub refused : ℕ → Packet
+refused n =
+    record {
+      number = n;
+      kind = None;
+      application = 0;
+      sequence = 0;
+      time = 0;
+      frame = 0;
+      rates = zeros 124;
+      settings = noSettings;
+      sum = 0;
+      beacons = zeros 12;
+      p = 0;
+    }
+
+-- an accepted one: "The reader returns kind, header and frame number", with what its kind has
+unfoldable pub accepted : Kind → List ℕ → List ℕ → Settings → ℕ → List ℕ → ℕ → Packet
+accepted kind xs rates settings sum beacons p =
+    record {
+      number = 0;
+      kind = kind;
+      application = applicationOf xs;
+      sequence = sequenceOf xs;
+      time = timeOf xs;
+      frame = frameOf xs;
+      rates = rates;
+      settings = settings;
+      sum = sum;
+      beacons = beacons;
+      p = p;
+    }
+
+-- ".. with a rate packet's rates, settings and table sum, a beacon's rates, or p"; what a kind has not is zero
+unfoldable pub contents : Kind → List ℕ → Packet
+contents Rate xs = accepted Rate xs (ratesOf 124 xs) (settingsOf xs) (sumOf xs) (zeros 12) 0
+contents Sample xs = accepted Sample xs (zeros 124) noSettings 0 (zeros 12) (markOf xs)
+contents Beacon xs = accepted Beacon xs (zeros 124) noSettings 0 (ratesOf 12 xs) 0
+contents None xs = refused 0
+
+-- what `read` answers
+unfoldable pub readOf : List ℕ → Packet
+readOf xs = cond (eqb (readNumber xs) 0) (contents (kindOf (applicationOf xs)) xs) (refused (readNumber xs))
+
+-- whether the kind is that of samples
+abbrev pub isSample : Kind → Bool
+isSample Rate = false
+isSample Sample = true
+isSample Beacon = false
+isSample None = false
+
+-- an accepted sample packet
+unfoldable pub samplesIn : List ℕ → Bool
+samplesIn xs = eqb (readNumber xs) 0 && isSample (kindOf (applicationOf xs))
+
+-- what `records` answers: "the sample records as a part of the packet itself, bytes 11-266, and of any other or refused packet an
+-- empty part"
+unfoldable pub recordsOf : List ℕ → List ℕ
+recordsOf xs = cond (samplesIn xs) (take 256 (drop 11 xs)) []

@@ -1,0 +1,75 @@
+use Prim.Native.Nat.{ℕ, _+_, _-_, _*_, min}
+use mathlib.Core.Path.{_≡_, sym, ap, _∙_}
+use mathlib.Core.List.{List, _++_}
+use native.Mathlib.Omega.{arith}
+use lib.ListN.{take, drop}
+use denote.Ref.{now}
+use Rattle.wire.specs.Bytes.{put, zeros}
+use Rattle.load.specs.Load.{padded}
+use Rattle.load.proofs.ListLaws.{part-of-reach}
+use borrow.Author.Needs.{needs}
+use Rattle.load.proofs.run.load_word.Statement.{statement}
+use Rattle.load.proofs.run.load_word.Tie as tie
+
+mul-from : tie.Need-mul-from
+mul-from c = search needs
+
+sub-smaller : tie.Need-sub-smaller
+sub-smaller c = search needs
+
+smaller-requires : tie.Need-smaller-requires
+smaller-requires c κs = search needs
+
+add-to : tie.Need-add-to
+add-to c = search needs
+
+mul-put-packed : tie.Need-mul-put-packed
+mul-put-packed c = search needs
+
+add-put-packed : tie.Need-add-put-packed
+add-put-packed c = search needs
+
+sub-put-packed : tie.Need-sub-put-packed
+sub-put-packed c = search needs
+
+part-put-packed-start : tie.Need-part-put-packed-start
+part-put-packed-start c = search needs
+
+part-put-packed-end : tie.Need-part-put-packed-end
+part-put-packed-end c = search needs
+
+put-packed-requires : tie.Need-put-packed-requires
+put-packed-requires c κs = search needs
+
+same-length : tie.Need-same-length
+same-length c = search needs
+
+returns : tie.Need-returns
+returns c =
+    let q = c .before .before in
+    let m = q .before .before .before in
+    let s = m .before .before .before .args in
+    let staged = now (s .staging) in
+    let w = s .width in
+    let f : ℕ = w * s .k in
+    let e : f + m .smaller .result - f ≡ min w (s .reach - f) = omega (arith, m .smaller .ensures) in
+    q .put-packed .ensures
+    ∙ ap (λ (b : List ℕ). put (now (s .tables)) (s .at + 3 * s .k) (zeros (3 - w) ++ padded w b))
+    (ap (λ (n : ℕ). take n (drop f staged)) e ∙ sym (part-of-reach staged w f (s .reach) (omega arith) (omega arith)))
+
+pub load-word-spec : {M : Type 1} → statement M
+load-word-spec =
+    tie.close
+    (tie.spec
+    mul-from
+    sub-smaller
+    smaller-requires
+    add-to
+    mul-put-packed
+    add-put-packed
+    sub-put-packed
+    part-put-packed-start
+    part-put-packed-end
+    put-packed-requires
+    same-length
+    returns)

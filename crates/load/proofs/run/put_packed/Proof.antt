@@ -1,0 +1,70 @@
+use Prim.Native.Nat.{ℕ, _+_, _-_}
+use mathlib.Core.Path.{_≡_, ap, _∙_}
+use mathlib.Core.List.{List, _++_, append-assoc}
+use native.Mathlib.Omega.{arith}
+use lib.ListN.{length, length-append, length-replicate}
+use denote.Ref.{now}
+use Rattle.wire.specs.Bytes.{put, zeros}
+use Rattle.wire.proofs.Bytes.{then}
+use borrow.Author.Needs.{needs}
+use Rattle.load.proofs.run.put_packed.Statement.{statement}
+use Rattle.load.proofs.run.put_packed.Tie as tie
+
+sub-from : tie.Need-sub-from
+sub-from c = search needs
+
+add-from : tie.Need-add-from
+add-from c = search needs
+
+put-zeros-requires : tie.Need-put-zeros-requires
+put-zeros-requires c κs = search needs
+
+put-bytes-requires : tie.Need-put-bytes-requires
+put-bytes-requires c κs = search needs
+
+add-put-zeros : tie.Need-add-put-zeros
+add-put-zeros c = search needs
+
+add-put-zeros-2 : tie.Need-add-put-zeros-2
+add-put-zeros-2 c = search needs
+
+put-zeros-requires-2 : tie.Need-put-zeros-requires-2
+put-zeros-requires-2 c κs = search needs
+
+same-length : tie.Need-same-length
+same-length c = search needs
+
+returns : tie.Need-returns
+returns c =
+    let c3 = c .before .before in
+    let c2 = c3 .before .before .before .before in
+    let c1 = c2 .before .before .before .before in
+    let s = c1 .before .before .before .before .args in
+    let xs = now (s .tables) in
+    let b = now (s .bytes) in
+    let from : ℕ = s .at + (3 - s .width) in
+    let k : from - s .at ≡ 3 - s .width = omega arith in
+    let n : s .at + 3 - (from + length b) ≡ s .width - length b = omega arith in
+    let front : List ℕ = zeros (3 - s .width) in
+    let lf : length front ≡ 3 - s .width = length-replicate {A = ℕ} (3 - s .width) 0 in
+    let lb : length (front ++ b) ≡ length front + length b = length-append front b in
+    then xs (s .at) (front ++ b) (zeros (s .width - length b)) (from + length b)
+    (then xs (s .at) front b from (c1 .put-zeros .ensures ∙ ap (λ (m : ℕ). put xs (s .at) (zeros m)) k) (c2 .put-bytes .ensures) (omega arith) (omega arith))
+    (c3 .put-zeros2 .ensures ∙ ap (λ (m : ℕ). put (c2 .put-bytes .last .0) (from + length b) (zeros m)) n)
+    (omega arith)
+    (omega arith)
+    ∙ ap (put xs (s .at)) (append-assoc front b (zeros (s .width - length b)))
+
+pub put-packed-spec : {M : Type 1} → statement M
+put-packed-spec =
+    tie.close
+    (tie.spec
+    sub-from
+    add-from
+    put-zeros-requires
+    put-bytes-requires
+    add-put-zeros
+    add-put-zeros-2
+    put-zeros-requires-2
+    same-length
+    returns)

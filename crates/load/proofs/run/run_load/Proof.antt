@@ -1,0 +1,112 @@
+use Rattle.tables.specs.Tables.{first}
+use Prim.Native.Nat.{ℕ, _≤_, _+_, _-_, _*_}
+use mathlib.Core.Path.{_≡_, refl, ap, _∙_}
+use mathlib.Core.List.{List}
+use native.Mathlib.Omega.{arith}
+use native.Mathlib.Numerals.{add-one}
+use lib.ListN.{length, take}
+use lib.Seq.{length-take-le}
+use denote.Ref.{now}
+use Rattle.wire.specs.Bytes.{put}
+use Rattle.wire.proofs.Bytes.{then, put-nil}
+use Rattle.load.specs.Load.{wordWidth, loadWords, packedWord, packedWords, loaded}
+use Rattle.load.proofs.LoadLaws.{lawful-is, lawful-reach, words-start, length-packed-words}
+use borrow.Author.Needs.{needs}
+use Rattle.load.proofs.run.run_load.Statement.{statement}
+use Rattle.load.proofs.run.run_load.Tie as tie
+
+abbrev Inv-loop : tie.InvT-loop
+Inv-loop tables₀ staging a y reach at width words k₀ tables k =
+    (k ≤ words) × (tables ≡ put tables₀ at (packedWords width (take reach staging) k)) × (length tables ≡ length tables₀)
+
+abbrev μ-loop : tie.MeasureT-loop
+μ-loop tables₀ staging a y reach at width words k₀ tables k = words - k
+
+sub-at : tie.Need-sub-at Inv-loop μ-loop
+sub-at c =
+    let s = c .before .before in
+    lawful-is (s .args .a) (s .args .y) (s .args .reach) (s .pre .1) .from
+
+mul-at : tie.Need-mul-at Inv-loop μ-loop
+mul-at c =
+    let s = c .before .before in
+    omega arith
+
+word-width-requires : tie.Need-word-width-requires Inv-loop μ-loop
+word-width-requires c κs = search needs
+
+load-words-requires : tie.Need-load-words-requires Inv-loop μ-loop
+load-words-requires c κs = search needs
+
+loop-holds : tie.Need-loop-holds Inv-loop μ-loop
+unfolding packedWords
+loop-holds c = (omega arith, put-nil _ _, refl)
+
+load-word-requires : tie.Need-load-word-requires Inv-loop μ-loop
+load-word-requires c κs =
+    let l = c .before .before in
+    let w = l .before .before in
+    let s = w .before .before .before in
+    let a = s .args in
+    let q = lawful-is (a .a) (a .y) (a .reach) (s .pre .1) in
+    let n : l .before .load-words .result ≡ loadWords (a .y) (a .reach) = l .before .load-words .ensures in
+    let h : w .word-width .result * l .loop .k ≡ wordWidth (a .y) * l .loop .k = ap (λ (v : ℕ). v * l .loop .k) (w .word-width .ensures .0) in
+    (omega arith, (omega arith, omega (arith, words-start (a .y) (a .reach) (l .loop .k) (omega arith)), omega (arith, lawful-reach (a .a) (a .y) (a .reach) (s .pre .1))))
+
+add-k : tie.Need-add-k Inv-loop μ-loop
+add-k c = search needs
+
+loop-less : tie.Need-loop-less Inv-loop μ-loop
+loop-less c = search needs
+
+loop-again : tie.Need-loop-again Inv-loop μ-loop
+unfolding packedWords
+loop-again c =
+    let l = c .before .before .before .before .before in
+    let w = l .before .before in
+    let s = w .before .before .before in
+    let a = s .args in
+    let k = l .loop .k in
+    let width = w .word-width .result in
+    let bytes : List ℕ = take (a .reach) (now (a .staging)) in
+    let at : ℕ = 3 * (a .a - first) in
+    let n : l .before .load-words .result ≡ loadWords (a .y) (a .reach) = l .before .load-words .ensures in
+    let q = lawful-is (a .a) (a .y) (a .reach) (s .pre .1) in
+    let lp : length (packedWords width bytes k) ≡ 3 * k = length-packed-words width bytes (omega arith) k in (
+      omega arith,
+      rw add-one (then (now (a .tables)) at (packedWords width bytes k) (packedWord width bytes k) (at + 3 * k) (l .loop .inv .1) (c .before .before .load-word .ensures) (omega arith) (omega arith)),
+      omega arith,
+    )
+
+same-length : tie.Need-same-length Inv-loop μ-loop
+same-length c = search needs
+
+returns : tie.Need-returns Inv-loop μ-loop
+unfolding loaded
+returns c =
+    let l = c .before in
+    let w = l .before .before in
+    let s = w .before .before .before in
+    let a = s .args in
+    let staged = now (a .staging) in
+    let n : l .loop .k ≡ loadWords (a .y) (length (take (a .reach) staged)) =
+    rw (length-take-le (a .reach) staged (omega (arith, lawful-reach (a .a) (a .y) (a .reach) (s .pre .1)))) (let e = l .before .load-words .ensures in omega arith) in
+    l .loop .inv .1 ∙ (λ i. put (now (a .tables)) (3 * (a .a - first)) (packedWords (w .word-width .ensures .0 i) (take (a .reach) staged) (n i)))
+
+pub run-load-spec : {M : Type 1} → statement M
+run-load-spec =
+    tie.close
+    (tie.spec
+    Inv-loop
+    μ-loop
+    sub-at
+    mul-at
+    word-width-requires
+    load-words-requires
+    loop-holds
+    load-word-requires
+    add-k
+    loop-less
+    loop-again
+    same-length
+    returns)

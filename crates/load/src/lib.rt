@@ -1,0 +1,4 @@
+// Loads: packages that bring bytes to staging, and packing staged bytes into the lookup tables.
+pub mod run;
+pub mod staging;
+pub mod words;

@@ -1,0 +1,62 @@
+// Packing the staged bytes into the tables.
+ghost use mathlib.Core.Path.{_≡_};
+ghost use mathlib.Core.Bool.{true};
+ghost use mathlib.Core.List.{_++_};
+ghost use Prim.Native.Nat.{_+_, _-_, _*_, _≤_, min};
+ghost use lib.ListN.{length, take};
+ghost use Rattle.wire.specs.Bytes.{put, zeros};
+ghost use Rattle.tables.specs.Tables.{tableBytes};
+ghost use Rattle.load.specs.Staging.{stagingBytes};
+ghost use Rattle.load.specs.Load.{padded, loadLawful, packedWord, loaded};
+use crate::words::load_words;
+use crate::words::word_width;
+use wire::write::put_bytes;
+use wire::write::put_zeros;
+
+// One word of the tables from `at` on: zeros, the bytes, and zeros behind a short last word.
+fn put_packed(tables: &mut [u8], at: usize, width: usize, bytes: &[u8])
+    requires { ⌜ at + 3 ≤ length (now tables) ⌝ }
+    requires { ⌜ (length (now bytes) ≤ width) × (width ≤ 3) ⌝ }
+    ensures { λ _. ⌜ now (tables .exit) ≡ put (now (tables .entry)) at (zeros (3 - width) ++ padded width (now (bytes .entry))) ⌝ }
+{
+    let from = at + (3 - width);
+    put_zeros(tables, at, from);
+    put_bytes(tables, from, bytes);
+    put_zeros(tables, from + bytes.len(), at + 3);
+}
+
+fn smaller(a: usize, b: usize) -> usize
+    ensures { λ r. ⌜ r ≡ min a b ⌝ }
+{
+    if a < b {
+        return a;
+    }
+    b
+}
+
+// Word k of the reach, packed into its place. What is left of the reach may be less than a word.
+fn load_word(tables: &mut [u8], staging: &[u8], at: usize, width: usize, k: usize, reach: usize)
+    requires { ⌜ (at + 3 * k) + 3 ≤ length (now tables) ⌝ }
+    requires { ⌜ (width ≤ 3) × (width * k ≤ reach) × (reach ≤ length (now staging)) ⌝ }
+    ensures { λ _. ⌜ now (tables .exit) ≡ put (now (tables .entry)) (at + 3 * k) (packedWord width (take reach (now (staging .entry))) k) ⌝ }
+{
+    let from = width * k;
+    let to = from + smaller(width, reach - from);
+    put_packed(tables, at + 3 * k, width, &staging[from..to]);
+}
+
+// The first `reach` bytes of staging, packed into the tables from word a on.
+pub fn run_load(tables: &mut [u8], staging: &[u8], a: u32, y: u8, reach: u32)
+    requires { ⌜ (length (now tables) ≡ tableBytes) × (length (now staging) ≡ stagingBytes) ⌝ }
+    requires { ⌜ loadLawful a y reach ≡ true ⌝ }
+    ensures { λ _. ⌜ now (tables .exit) ≡ loaded (now (tables .entry)) (now (staging .entry)) a y reach ⌝ }
+{
+    let at = 3 * (a as usize - tables::FIRST);
+    let width = word_width(y);
+    let words = load_words(y, reach);
+    let mut k: usize = 0;
+    while k < words {
+        load_word(tables, staging, at, width, k, reach as usize);
+        k += 1;
+    }
+}

@@ -1,0 +1,7 @@
+pub mod Codes
+pub mod Runs
+pub mod Written
+pub mod Reading
+pub mod Back
+pub mod Accepted
+pub mod Damage

@@ -1,0 +1,64 @@
+use borrow.Author.Needs.{needs}
+use Prim.Native.Nat.{_≤_, _-_}
+use mathlib.Core.Path.{_≡_, ap, _∙_}
+use native.Mathlib.Omega.{arith}
+use Rattle.packet.specs.Rate.{codeValid}
+use Rattle.packet.specs.Read.{codesGood}
+use Rattle.packet.proofs.Runs.{each-start, each-turn, each-end}
+use Rattle.packet.proofs.faults.codes_good.Statement.{statement}
+use Rattle.packet.proofs.faults.codes_good.Tie as tie
+
+abbrev Inv-loop : tie.InvT-loop
+Inv-loop packet n good₀ i₀ good i = (i ≤ n) × (good ≡ codesGood i packet)
+
+abbrev μ-loop : tie.MeasureT-loop
+μ-loop packet n good₀ i₀ good i = n - i
+
+loop-holds : tie.Need-loop-holds Inv-loop μ-loop
+unfolding codesGood
+loop-holds c = (omega arith, each-start _)
+
+mul-u16-at : tie.Need-mul-u16-at Inv-loop μ-loop
+mul-u16-at c = search needs
+
+add-u16-at : tie.Need-add-u16-at Inv-loop μ-loop
+add-u16-at c = search needs
+
+u16-at-requires : tie.Need-u16-at-requires Inv-loop μ-loop
+u16-at-requires c κs = search needs
+
+valid-requires : tie.Need-valid-requires Inv-loop μ-loop
+valid-requires c κs = search needs
+
+add-i : tie.Need-add-i Inv-loop μ-loop
+add-i c = search needs
+
+loop-less : tie.Need-loop-less Inv-loop μ-loop
+loop-less c = search needs
+
+loop-again : tie.Need-loop-again Inv-loop μ-loop
+unfolding codesGood
+loop-again c =
+    let l = c .before .before .before in
+    (omega arith, each-turn _ (l .loop .i) (l .loop .inv .1) (c .valid .ensures ∙ ap codeValid (c .before .u16-at .ensures)))
+
+returns : tie.Need-returns Inv-loop μ-loop
+unfolding codesGood
+returns c =
+    let l = c .before in each-end _ (l .loop .i) (l .before .before .args .n) (omega arith) (omega arith) (l .loop .inv .1)
+
+pub codes-good-spec : {M : Type 1} → statement M
+codes-good-spec =
+    tie.close
+    (tie.spec
+    Inv-loop
+    μ-loop
+    loop-holds
+    mul-u16-at
+    add-u16-at
+    u16-at-requires
+    valid-requires
+    add-i
+    loop-less
+    loop-again
+    returns)

@@ -1,0 +1,19 @@
+use borrow.Author.Needs.{needs}
+use borrow.Author.Tests.{eq-eqb, ne-eqb}
+use Rattle.packet.specs.Read.{headerGood}
+use Rattle.packet.proofs.faults.header_good.Statement.{statement}
+use Rattle.packet.proofs.faults.header_good.Tie as tie
+
+fields-good-requires : tie.Need-fields-good-requires
+fields-good-requires c κs = search needs
+
+returns : tie.Need-returns
+unfolding headerGood
+returns c = simp (c .fields-good .ensures, eq-eqb _ _ (c .before .if1 .taken))
+
+returns-2 : tie.Need-returns-2
+unfolding headerGood
+returns-2 c = simp (ne-eqb _ _ (c .if1 .left))
+
+pub header-good-spec : {M : Type 1} → statement M
+header-good-spec = tie.close (tie.spec fields-good-requires returns returns-2)

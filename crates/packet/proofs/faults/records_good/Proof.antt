@@ -1,0 +1,63 @@
+use borrow.Author.Needs.{needs}
+use Prim.Native.Nat.{_≤_, _-_}
+use mathlib.Core.Path.{_≡_, ap, _∙_}
+use native.Mathlib.Omega.{arith}
+use Rattle.packet.specs.Read.{recordGood, recordsGood}
+use Rattle.packet.proofs.Runs.{each-start, each-turn, each-end}
+use Rattle.packet.proofs.faults.records_good.Statement.{statement}
+use Rattle.packet.proofs.faults.records_good.Tie as tie
+
+abbrev Inv-loop : tie.InvT-loop
+Inv-loop packet n good₀ i₀ good i = (i ≤ n) × (good ≡ recordsGood i packet)
+
+abbrev μ-loop : tie.MeasureT-loop
+μ-loop packet n good₀ i₀ good i = n - i
+
+loop-holds : tie.Need-loop-holds Inv-loop μ-loop
+unfolding recordsGood
+loop-holds c = (omega arith, each-start _)
+
+mul-u32-at : tie.Need-mul-u32-at Inv-loop μ-loop
+mul-u32-at c = search needs
+
+add-u32-at : tie.Need-add-u32-at Inv-loop μ-loop
+add-u32-at c = search needs
+
+u32-at-requires : tie.Need-u32-at-requires Inv-loop μ-loop
+u32-at-requires c κs = search needs
+
+record-good-requires : tie.Need-record-good-requires Inv-loop μ-loop
+record-good-requires c κs = search needs
+
+add-i : tie.Need-add-i Inv-loop μ-loop
+add-i c = search needs
+
+loop-less : tie.Need-loop-less Inv-loop μ-loop
+loop-less c = search needs
+
+loop-again : tie.Need-loop-again Inv-loop μ-loop
+unfolding recordsGood
+loop-again c =
+    let l = c .before .before .before in
+    (omega arith, each-turn _ (l .loop .i) (l .loop .inv .1) (c .record-good .ensures ∙ ap recordGood (c .before .u32-at .ensures)))
+
+returns : tie.Need-returns Inv-loop μ-loop
+unfolding recordsGood
+returns c =
+    let l = c .before in each-end _ (l .loop .i) (l .before .before .args .n) (omega arith) (omega arith) (l .loop .inv .1)
+
+pub records-good-spec : {M : Type 1} → statement M
+records-good-spec =
+    tie.close
+    (tie.spec
+    Inv-loop
+    μ-loop
+    loop-holds
+    mul-u32-at
+    add-u32-at
+    u32-at-requires
+    record-good-requires
+    add-i
+    loop-less
+    loop-again
+    returns)

@@ -1,0 +1,85 @@
+use borrow.Author.Needs.{needs}
+use Rattle.packet.specs.Rate.{leastCount, codeValid}
+use Rattle.packet.proofs.Runs.{table-none, table-turn, table-end, each-at}
+use Prim.Native.Nat.{_≤_, _-_}
+use mathlib.Core.Path.{_≡_, refl, ap, _∙_}
+use native.Mathlib.Omega.{arith}
+use lib.ListN.{length, take, length-set}
+use Rattle.packet.specs.Read.{ratesOf, codesGood}
+use Rattle.packet.proofs.fields.rates.Statement.{statement}
+use Rattle.packet.proofs.fields.rates.Tie as tie
+
+abbrev Inv-loop : tie.InvT-loop
+Inv-loop packet counts₀ i₀ counts i = (i ≤ length counts₀) × (take i counts ≡ ratesOf i packet) × (length counts ≡ length counts₀)
+
+abbrev μ-loop : tie.MeasureT-loop
+μ-loop packet counts₀ i₀ counts i = length counts₀ - i
+
+loop-holds : tie.Need-loop-holds Inv-loop μ-loop
+unfolding ratesOf
+loop-holds c = (omega arith, table-none _, refl)
+
+mul-u16-at : tie.Need-mul-u16-at Inv-loop μ-loop
+mul-u16-at c = search needs
+
+add-u16-at : tie.Need-add-u16-at Inv-loop μ-loop
+add-u16-at c = search needs
+
+u16-at-requires : tie.Need-u16-at-requires Inv-loop μ-loop
+u16-at-requires c κs = search needs
+
+least-count-requires : tie.Need-least-count-requires Inv-loop μ-loop
+unfolding codesGood
+least-count-requires c κs =
+    let l = c .before .before in
+    ap codeValid (c .u16-at .ensures) ∙ each-at _ _ (l .loop .i) (omega arith) (l .before .before .before .pre .1)
+
+mul-counts : tie.Need-mul-counts Inv-loop μ-loop
+mul-counts c = search needs
+
+slice-write-counts : tie.Need-slice-write-counts Inv-loop μ-loop
+slice-write-counts c = search needs
+
+add-i : tie.Need-add-i Inv-loop μ-loop
+add-i c = search needs
+
+loop-less : tie.Need-loop-less Inv-loop μ-loop
+loop-less c = search needs
+
+loop-again : tie.Need-loop-again Inv-loop μ-loop
+unfolding ratesOf
+loop-again c =
+    let l = c .before .before .before in
+    let i = l .loop .i in (
+      omega arith,
+      table-turn _ (l .loop .counts) i (omega arith) (l .loop .inv .1) (c .least-count .ensures ∙ ap leastCount (c .before .u16-at .ensures)),
+      simp length-set (l .loop .inv .2),
+    )
+
+same-length : tie.Need-same-length Inv-loop μ-loop
+same-length c = search needs
+
+returns : tie.Need-returns Inv-loop μ-loop
+unfolding ratesOf
+returns c =
+    let l = c .before in
+    table-end _ (l .loop .counts) (l .loop .i) _ (omega arith) (omega arith) (l .loop .inv .2) (l .loop .inv .1)
+
+pub rates-spec : {M : Type 1} → statement M
+rates-spec =
+    tie.close
+    (tie.spec
+    Inv-loop
+    μ-loop
+    loop-holds
+    mul-u16-at
+    add-u16-at
+    u16-at-requires
+    least-count-requires
+    mul-counts
+    slice-write-counts
+    add-i
+    loop-less
+    loop-again
+    same-length
+    returns)

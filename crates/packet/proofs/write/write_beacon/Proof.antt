@@ -1,0 +1,55 @@
+use borrow.Author.Needs.{needs}
+use Prim.Native.Nat.{ℕ}
+use mathlib.Core.Path.{_≡_}
+use mathlib.Core.List.{List, _++_}
+use native.Mathlib.Omega.{arith}
+use lib.ListN.{length}
+use denote.Ref.{now}
+use Rattle.wire.specs.Bytes.{zeros}
+use Rattle.wire.proofs.Bytes.{then}
+use Rattle.packet.specs.Packet.{codes, beaconPacket}
+use Rattle.packet.proofs.Written.{length-codes, length-beacon-body, written}
+use Rattle.packet.proofs.write.write_beacon.Statement.{statement}
+use Rattle.packet.proofs.write.write_beacon.Tie as tie
+
+write-header-requires : tie.Need-write-header-requires
+write-header-requires c κs = search needs
+
+write-codes-requires : tie.Need-write-codes-requires
+write-codes-requires c κs = search needs
+
+put-zeros-requires : tie.Need-put-zeros-requires
+put-zeros-requires c κs = search needs
+
+finish-requires : tie.Need-finish-requires
+finish-requires c κs = search needs
+
+same-length : tie.Need-same-length
+same-length c = search needs
+
+returns : tie.Need-returns
+unfolding beaconPacket
+returns c =
+    let c4 = c .before .before in
+    let c3 = c4 .before .before .before .before in
+    let c2 = c3 .before .before .before .before in
+    let c1 = c2 .before .before .before .before in
+    let s = c1 .before .before .before .before in
+    let x = c1 .write-header .last .0 in
+    let B : List ℕ = codes (now (s .args .beacons)) in
+    let lb : length B ≡ 24 = omega (arith, length-codes (now (s .args .beacons)), s .pre .0 .1) in
+    written (now (s .args .part)) _ _ _ _ (B ++ zeros 232) (s .pre .0 .0) (length-beacon-body (now (s .args .beacons)) (s .pre .0 .1))
+    (c1 .write-header .ensures)
+    (then x 11 B (zeros 232) 35 (c2 .write-codes .ensures) (c3 .put-zeros .ensures) (omega arith) (omega arith))
+    (c4 .finish .ensures)
+
+pub write-beacon-spec : {M : Type 1} → statement M
+write-beacon-spec =
+    tie.close
+    (tie.spec
+    write-header-requires
+    write-codes-requires
+    put-zeros-requires
+    finish-requires
+    same-length
+    returns)

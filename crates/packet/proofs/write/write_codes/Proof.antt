@@ -1,0 +1,93 @@
+use borrow.Author.Needs.{needs}
+use Prim.Native.Nat.{ℕ, _≤_, _-_, _+_, _*_}
+use mathlib.Core.Path.{_≡_, refl, sym, ap, _∙_}
+use mathlib.Core.List.{List, _++_}
+use native.Mathlib.Omega.{arith}
+use lib.ListN.{length, take}
+use lib.Seq.{take-all}
+use denote.Ref.{now}
+use Rattle.wire.specs.Bytes.{put, be16}
+use Rattle.wire.proofs.Bytes.{then, put-nil}
+use Rattle.packet.specs.Packet.{codes}
+use Rattle.packet.specs.Lists.{runs}
+use Rattle.packet.proofs.Written.{codes-take, length-codes-take}
+use Rattle.packet.proofs.write.write_codes.Statement.{statement}
+use Rattle.packet.proofs.write.write_codes.Tie as tie
+
+abbrev Inv-loop : tie.InvT-loop
+Inv-loop part₀ at counts i₀ part i = (i ≤ length counts) × (part ≡ put part₀ at (codes (take i counts))) × (length part ≡ length part₀)
+
+abbrev μ-loop : tie.MeasureT-loop
+μ-loop part₀ at counts i₀ part i = length counts - i
+
+loop-holds : tie.Need-loop-holds Inv-loop μ-loop
+unfolding codes runs
+loop-holds c = (omega arith, put-nil _ _, refl)
+
+mul-put-u16 : tie.Need-mul-put-u16 Inv-loop μ-loop
+mul-put-u16 c = search needs
+
+add-put-u16 : tie.Need-add-put-u16 Inv-loop μ-loop
+add-put-u16 c = search needs
+
+mul-encode : tie.Need-mul-encode Inv-loop μ-loop
+mul-encode c = search needs
+
+shared-slice-read-encode : tie.Need-shared-slice-read-encode Inv-loop μ-loop
+shared-slice-read-encode c = search needs
+
+encode-requires : tie.Need-encode-requires Inv-loop μ-loop
+encode-requires c κs = c .before .before .before .before .before .before .pre .1 (c .before .before .before .loop .i)
+
+put-u16-requires : tie.Need-put-u16-requires Inv-loop μ-loop
+put-u16-requires c κs = search needs
+
+add-i : tie.Need-add-i Inv-loop μ-loop
+add-i c = search needs
+
+loop-less : tie.Need-loop-less Inv-loop μ-loop
+loop-less c = search needs
+
+loop-again : tie.Need-loop-again Inv-loop μ-loop
+loop-again c =
+    let l = c .before .before .before .before .before .before .before in
+    let a = l .before .before .before .args in
+    let xs = now (a .part) in
+    let ns = now (a .counts) in
+    let i = l .loop .i in
+    let lc : length (codes (take i ns)) ≡ 2 * i = length-codes-take ns i (omega arith) in
+    let e = c .before .before .before .encode .ensures in (
+      omega arith,
+      then xs (a .at) (codes (take i ns)) (be16 _) (a .at + 2 * i) (l .loop .inv .1) (c .before .before .put-u16 .ensures) (omega arith) (omega arith)
+          ∙ ap (λ (n : ℕ). put xs (a .at) (codes (take i ns) ++ be16 n)) e
+          ∙ ap (put xs (a .at)) (sym (codes-take ns i (omega arith))),
+      omega arith,
+    )
+
+same-length : tie.Need-same-length Inv-loop μ-loop
+same-length c = search needs
+
+returns : tie.Need-returns Inv-loop μ-loop
+returns c =
+    let l = c .before in
+    let a = l .before .before .before .args in
+    l .loop .inv .1 ∙ ap (λ (v : List ℕ). put (now (a .part)) (a .at) (codes v)) (take-all (l .loop .i) (now (a .counts)) (omega arith))
+
+pub write-codes-spec : {M : Type 1} → statement M
+write-codes-spec =
+    tie.close
+    (tie.spec
+    Inv-loop
+    μ-loop
+    loop-holds
+    mul-put-u16
+    add-put-u16
+    mul-encode
+    shared-slice-read-encode
+    encode-requires
+    put-u16-requires
+    add-i
+    loop-less
+    loop-again
+    same-length
+    returns)

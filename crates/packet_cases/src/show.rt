@@ -1,0 +1,93 @@
+// Lines of output.
+use libc::STDOUT_FILENO;
+use packet::kind::Kind;
+
+fn end_line() {
+    io::write_all(STDOUT_FILENO, b"\n");
+}
+
+fn hex_line(bytes: &[u8]) {
+    let mut i: usize = 0;
+    while i < bytes.len() {
+        io::print_hex(STDOUT_FILENO, wide(bytes[i]), 2);
+        i += 1;
+    }
+    end_line();
+}
+
+fn wide(x: u8) -> u64 {
+    x as u64
+}
+
+fn wide_32(x: u32) -> u64 {
+    x as u64
+}
+
+pub fn number(n: u64) {
+    io::print_decimal(STDOUT_FILENO, n);
+    end_line();
+}
+
+fn word(n: u64) {
+    io::print_decimal(STDOUT_FILENO, n);
+    io::write_all(STDOUT_FILENO, b" ");
+}
+
+fn counts_line(counts: &[u32]) {
+    let mut i: usize = 0;
+    while i < counts.len() {
+        word(wide_32(counts[i]));
+        i += 1;
+    }
+    end_line();
+}
+
+fn rates_line(rates: &[u32; 124]) {
+    counts_line(rates);
+}
+
+fn beacons_line(beacons: &[u32; 12]) {
+    counts_line(beacons);
+}
+
+fn kind_number(kind: Kind) -> u64 {
+    match kind {
+        Kind::Rate => 1,
+        Kind::Sample => 2,
+        Kind::Beacon => 3,
+        Kind::None => 0,
+    }
+}
+
+fn flag(b: bool) -> u64 {
+    if b { 1 } else { 0 }
+}
+
+// A packet's bytes, and all that the reader answers for it.
+pub fn packet(bytes: &[u8]) {
+    hex_line(bytes);
+    let p = ground::read(bytes);
+    word(p.number as u64);
+    let kind = p.kind;
+    word(kind_number(kind));
+    word(p.application as u64);
+    word(p.sequence as u64);
+    word(p.time as u64);
+    word(p.frame as u64);
+    word(p.sum as u64);
+    word(p.p as u64);
+    end_line();
+    let s = p.settings;
+    word(s.limhi as u64);
+    word(flag(s.eonly));
+    word(flag(s.toferror));
+    word(flag(s.junk));
+    word(flag(s.hv));
+    word(s.hvstep as u64);
+    end_line();
+    let rates = p.rates;
+    rates_line(&rates);
+    let beacons = p.beacons;
+    beacons_line(&beacons);
+    hex_line(ground::records(bytes));
+}

@@ -1,0 +1,6 @@
+pub mod Answer
+pub mod Close
+pub mod Event
+pub mod Line
+pub mod Package
+pub mod Reading

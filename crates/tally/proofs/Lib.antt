@@ -1,0 +1,9 @@
+pub mod CountLaws
+pub mod EventStep
+pub mod Invariant
+pub mod Steps
+pub mod Replies
+pub mod Kept
+pub mod Balance
+pub mod Places
+pub mod Theorem

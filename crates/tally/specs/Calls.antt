@@ -1,0 +1,147 @@
+-- Lists of calls to one processor, and what it answers (document 01, "The tally of demand 3"). `next` and `reply` are the calls'
+-- own definitions, those that the contracts cite. Assumes nothing.
+use mathlib.Core.Path.{_≡_}
+use mathlib.Core.Bool.{Bool, true, false, _&&_}
+use mathlib.Core.List.{List, [], _∷_}
+use Prim.Native.Nat.{ℕ}
+use lib.ListN.{length}
+use Rattle.wire.specs.Bytes.{zeros}
+use Rattle.wire.specs.Lists.{EachBelow}
+use Rattle.settings.specs.Settings.{slotCount}
+use Rattle.sort.specs.declared.counts.Counts.{Counts}
+use Rattle.sort.specs.declared.event.Event.{Event}
+use Rattle.state.specs.declared.State.{State}
+use Rattle.state.specs.State.{freshState}
+use Rattle.processor.specs.Event.{eventAnswer, eventSlots}
+use Rattle.processor.specs.Reading.{readingAnswer}
+use Rattle.processor.specs.Line.{lineAnswer, lineEcho}
+use Rattle.processor.specs.Package.{isPlaced, packageAnswer, packageStaging, packageEcho}
+use Rattle.processor.specs.Close.{closeAnswer, closeTables, closeSlots, closeOut}
+
+-- a buffer is lent as the processor's own, the one used all along, or as another of any length and content
+pub data Lent : Type 0 where
+  own : Lent
+  other : List ℕ → Lent
+
+-- what a call finds in it, where the own one holds `mine`
+abbrev pub found : Lent → (mine : List ℕ) → List ℕ
+found own mine = mine
+found (other x) mine = x
+
+-- what the own one holds after a call that left `after` in what it was lent
+abbrev pub kept : Lent → (mine after : List ℕ) → List ℕ
+kept own mine after = after
+kept (other x) mine after = mine
+
+abbrev pub isOwn : Lent → Bool
+isOwn own = true
+isOwn (other x) = false
+
+-- a call, with its arguments and what it lends; echo and output are buffers of each call
+pub data Call : Type 0 where
+  event : (tables slots : Lent) → Event → Call
+  reading : (counts : List ℕ) → Call
+  line : (bytes echo : List ℕ) → Call
+  load : (bytes : List ℕ) (staging : Lent) (echo : List ℕ) → Call
+  close : (time : ℕ) (tables staging slots : Lent) (out : List ℕ) → Call
+
+-- what is returned beside the state: "An answer is all that is returned beside the state"
+pub data Reply : Type 0 where
+  answered : (number : ℕ) → Reply
+  echoed : (number : ℕ) (echo : List ℕ) → Reply
+  closed : (number taken : ℕ) (counts : Counts) (filled : ℕ) (out : List ℕ) → Reply
+
+abbrev pub numberOf : Reply → ℕ
+numberOf (answered n) = n
+numberOf (echoed n echo) = n
+numberOf (closed n taken counts filled out) = n
+
+-- the state with the processor's own buffers
+pub record World : Type 0 where
+  pub state : State
+  pub tables : List ℕ
+  pub staging : List ℕ
+  pub slots : List ℕ
+
+-- a fresh processor: "counts and slots 0"; tables and staging hold whatever they hold
+abbrev pub freshWorld : (tables staging : List ℕ) → World
+freshWorld tables staging = record { state = freshState; tables = tables; staging = staging; slots = zeros slotCount }
+
+-- the world after a call
+unfoldable pub next : World → Call → World
+next w (event t s e) = record {
+  state = eventAnswer (w .state) (found t (w .tables)) (found s (w .slots)) e .state;
+  tables = w .tables;
+  staging = w .staging;
+  slots = kept s (w .slots) (eventSlots (w .state) (found t (w .tables)) (found s (w .slots)) e);
+}
+next w (reading counts) = record {
+  state = readingAnswer (w .state) counts .state;
+  tables = w .tables;
+  staging = w .staging;
+  slots = w .slots;
+}
+next w (line bytes echo) = record {
+  state = lineAnswer (w .state) bytes echo .state;
+  tables = w .tables;
+  staging = w .staging;
+  slots = w .slots;
+}
+next w (load bytes g echo) = record {
+  state = packageAnswer (w .state) bytes (found g (w .staging)) echo .state;
+  tables = w .tables;
+  staging = kept g (w .staging) (packageStaging (w .state) bytes (found g (w .staging)) echo);
+  slots = w .slots;
+}
+next w (close time t g s out) = record {
+  state = closeAnswer (w .state) (found t (w .tables)) (found g (w .staging)) (found s (w .slots)) out .state;
+  tables = kept t (w .tables) (closeTables (w .state) (found t (w .tables)) (found g (w .staging)) (found s (w .slots)) out);
+  staging = w .staging;
+  slots = kept s (w .slots) (closeSlots (w .state) (found t (w .tables)) (found g (w .staging)) (found s (w .slots)) out);
+}
+
+-- what the call answers
+unfoldable pub reply : World → Call → Reply
+reply w (event t s e) = answered (eventAnswer (w .state) (found t (w .tables)) (found s (w .slots)) e .number)
+reply w (reading counts) = answered (readingAnswer (w .state) counts .number)
+reply w (line bytes echo) = echoed (lineAnswer (w .state) bytes echo .number) (lineEcho (w .state) bytes echo)
+reply w (load bytes g echo) =
+    echoed (packageAnswer (w .state) bytes (found g (w .staging)) echo .number) (packageEcho (w .state) bytes (found g (w .staging)) echo)
+reply w (close time t g s out) =
+    closed
+    (closeAnswer (w .state) (found t (w .tables)) (found g (w .staging)) (found s (w .slots)) out .number)
+    (closeAnswer (w .state) (found t (w .tables)) (found g (w .staging)) (found s (w .slots)) out .taken)
+    (closeAnswer (w .state) (found t (w .tables)) (found g (w .staging)) (found s (w .slots)) out .counts)
+    (closeAnswer (w .state) (found t (w .tables)) (found g (w .staging)) (found s (w .slots)) out .filled)
+    (closeOut (w .state) time (found t (w .tables)) (found g (w .staging)) (found s (w .slots)) out)
+
+-- ---- lists of calls
+
+unfoldable pub replies : World → List Call → List Reply
+replies w [] = []
+replies w (c ∷ cs) = reply w c ∷ replies (next w c) cs
+
+unfoldable pub after : World → List Call → World
+after w [] = w
+after w (c ∷ cs) = after (next w c) cs
+
+-- whether a call lends only the processor's own tables, staging and slots
+abbrev pub owns : Call → Bool
+owns (event t s e) = isOwn t && isOwn s
+owns (reading counts) = true
+owns (line bytes echo) = true
+owns (load bytes g echo) = isOwn g
+owns (close time t g s out) = isOwn t && (isOwn g && isOwn s)
+
+-- what the types of a call's arguments say: a reading has eight 16-bit counts
+abbrev pub Typed : Call → Type 0
+Typed (event t s e) = Unit {0}
+Typed (reading counts) = (length counts ≡ 8) × EachBelow 65536 counts
+Typed (line bytes echo) = Unit {0}
+Typed (load bytes g echo) = Unit {0}
+Typed (close time t g s out) = Unit {0}
+
+-- a lawful list: no call that is answered 0 or 10 lends another buffer than the processor's own; refused calls may lend anything
+abbrev pub Lawful : World → List Call → Type 0
+Lawful w [] = Unit {0}
+Lawful w (c ∷ cs) = Typed c × ((isPlaced (numberOf (reply w c)) ≡ true → owns c ≡ true) × Lawful (next w c) cs)

@@ -1,0 +1,153 @@
+-- Demand 3: one claim about every list of calls to a fresh processor (document 01, "The tally of demand 3"). Assumes nothing.
+use mathlib.Core.Path.{_≡_}
+use mathlib.Core.Logic.{_≢_}
+use mathlib.Core.Bool.{true, false}
+use mathlib.Core.List.{List, [], _∷_, map}
+use Prim.Native.Nat.{ℕ, zero, suc, _+_, _-_, _<_, min}
+use lib.ListN.{length, getD, drop}
+use Rattle.wire.specs.Bytes.{total}
+use Rattle.settings.specs.Settings.{slotCount}
+use Rattle.sort.specs.declared.counts.Counts.{Counts}
+use Rattle.sort.specs.declared.event.Event.{Event}
+use Rattle.sort.specs.Samples.{padded, filled}
+use Rattle.state.specs.Limits.{withinLimits}
+use Rattle.processor.specs.Event.{eventSlots}
+use Rattle.processor.specs.Package.{packageStaging}
+use Rattle.processor.specs.Close.{closeTables, closeSlots}
+use Rattle.tally.specs.Calls.{Lent, own, other, found, Call, event, reading, line, load, close, Reply, answered, echoed, closed, World, freshWorld, next, replies, after, Lawful}
+use Rattle.tally.specs.Tally.{Tally, freshTally, eligibles, recordFor, tnext, treplies, tafter}
+use Rattle.tally.specs.View.{view}
+
+-- every element has the property
+abbrev pub All : {A : Type 0} → (A → Type 0) → List A → Type 0
+All P [] = Unit {0}
+All P (x ∷ xs) = P x × All P xs
+
+-- no two elements are equal
+abbrev pub Distinct : {A : Type 0} → List A → Type 0
+Distinct [] = Unit {0}
+Distinct (x ∷ xs) = All (λ y. x ≢ y) xs × Distinct xs
+
+-- ---- the balances
+
+-- the count of box b, and of boxes 7 to 116 together
+abbrev pub box : Counts → ℕ → ℕ
+box c b = getD (c .boxes) (b - 1) 0
+
+abbrev pub cells : Counts → ℕ
+cells c = total (drop 6 (c .boxes))
+
+pub record Balanced (taken : ℕ) (c : Counts) : Type 0 where
+  -- every event is discarded or has its gain
+  pub gains : box c 3 + box c 4 + box c 5 ≡ taken
+  -- every event with a gain is out of bounds or in a cell's box
+  pub boxes : box c 3 + box c 4 ≡ box c 6 + cells c
+  -- every event in a cell's box has its priority
+  pub priorities : box c 1 + box c 2 ≡ cells c
+
+-- ---- the samples
+
+-- the event at a place of the list; past its end, which no place below is, an event of zeros
+abbrev pub noEvent : Event
+noEvent = record { t = 0; high = 0; low = 0; flg0 = false; flg1 = false; error = false; stop = false }
+
+abbrev pub eventAt : List Event → ℕ → Event
+eventAt es i = getD es i noEvent
+
+-- the slots are the records of that many different events: at distinct places of the interval's list
+pub record Samples (t : Tally) (slots : List ℕ) : Type 0 where
+  pub places : List ℕ
+  pub places-differ : Distinct places
+  pub places-below : All (λ i. i < length (t .events)) places
+  pub places-many : length places ≡ min slotCount (length (eligibles t))
+  pub slots-are : slots ≡ padded slotCount (map (λ i. recordFor t (eventAt (t .events) i)) places)
+
+-- ---- at every moment: before each call, and at the end
+
+pub record Moment (t : Tally) (w : World) : Type 0 where
+  -- the state and the own buffers are the tally's
+  pub same : w ≡ view t
+  pub limits : withinLimits (w .state) ≡ true
+  pub balanced : Balanced (w .state .taken) (w .state .counts)
+  -- "filled is the lesser of 704 and the eligible events"
+  pub filled-are : filled (w .slots) ≡ min slotCount (length (eligibles t))
+  pub samples : Samples t (w .slots)
+
+abbrev pub Moments : Tally → World → List Call → Type 0
+Moments t w [] = Moment t w
+Moments t w (c ∷ cs) = Moment t w × Moments (tnext t c) (next w c) cs
+
+-- ---- the answers
+
+-- a close that is carried out hands out counts that balance, as the zeros of a refused one do
+abbrev pub ClosedBalanced : Reply → Type 0
+ClosedBalanced (answered n) = Unit {0}
+ClosedBalanced (echoed n echo) = Unit {0}
+ClosedBalanced (closed n taken counts filled out) = Balanced taken counts
+
+-- event calls answered 0
+abbrev pub takenOne : Call → Reply → ℕ
+takenOne (event t s e) (answered zero) = 1
+takenOne (event t s e) (answered (suc n)) = 0
+takenOne (event t s e) (echoed n echo) = 0
+takenOne (event t s e) (closed n taken counts filled out) = 0
+takenOne (reading counts) r = 0
+takenOne (line bytes echo) r = 0
+takenOne (load bytes staging echo) r = 0
+takenOne (close time t g s out) r = 0
+
+unfoldable pub takenCalls : List Call → List Reply → ℕ
+takenCalls [] rs = 0
+takenCalls (c ∷ cs) [] = 0
+takenCalls (c ∷ cs) (r ∷ rs) = takenOne c r + takenCalls cs rs
+
+-- what closes handed out
+abbrev pub takenIn : Reply → ℕ
+takenIn (answered n) = 0
+takenIn (echoed n echo) = 0
+takenIn (closed n taken counts filled out) = taken
+
+unfoldable pub takenClosed : List Reply → ℕ
+takenClosed [] = 0
+takenClosed (r ∷ rs) = takenIn r + takenClosed rs
+
+-- ---- other buffers
+
+-- a buffer that is not the processor's own is left as it was lent
+abbrev pub OtherIs : Lent → (after : List ℕ) → Type 0
+OtherIs own after = Unit {0}
+OtherIs (other x) after = after ≡ x
+
+abbrev pub OthersKept : World → Call → Type 0
+OthersKept w (event t s e) = OtherIs s (eventSlots (w .state) (found t (w .tables)) (found s (w .slots)) e)
+OthersKept w (reading counts) = Unit {0}
+OthersKept w (line bytes echo) = Unit {0}
+OthersKept w (load bytes g echo) = OtherIs g (packageStaging (w .state) bytes (found g (w .staging)) echo)
+OthersKept w (close time t g s out) =
+    OtherIs t (closeTables (w .state) (found t (w .tables)) (found g (w .staging)) (found s (w .slots)) out)
+    × OtherIs s (closeSlots (w .state) (found t (w .tables)) (found g (w .staging)) (found s (w .slots)) out)
+
+abbrev pub EachKept : World → List Call → Type 0
+EachKept w [] = Unit {0}
+EachKept w (c ∷ cs) = OthersKept w c × EachKept (next w c) cs
+
+-- ---- the claim
+
+pub record Demand3 (tables staging : List ℕ) (cs : List Call) : Type 0 where
+  -- every answer, with echo and output, is the tally's
+  pub answers : replies (freshWorld tables staging) cs ≡ treplies (freshTally tables staging) cs
+  -- the state and the buffers at the end are the tally's
+  pub ending : after (freshWorld tables staging) cs ≡ view (tafter (freshTally tables staging) cs)
+  -- at every moment on the way: limits, balances, samples
+  pub moments : Moments (freshTally tables staging) (freshWorld tables staging) cs
+  -- the balances of every closed interval
+  pub closes : All ClosedBalanced (replies (freshWorld tables staging) cs)
+  -- event calls answered 0 are those of the closes and of the open interval
+  pub events : takenCalls cs (replies (freshWorld tables staging) cs)
+      ≡ takenClosed (replies (freshWorld tables staging) cs) + after (freshWorld tables staging) cs .state .taken
+  -- what is lent besides the own buffers is left as it was
+  pub others : EachKept (freshWorld tables staging) cs
+
+-- for every initial tables and staging, and every lawful list of calls
+abbrev pub demand3 : Type 0
+demand3 = (tables staging : List ℕ) (cs : List Call) → Lawful (freshWorld tables staging) cs → Demand3 tables staging cs

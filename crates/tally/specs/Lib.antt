@@ -1,0 +1,4 @@
+pub mod Calls
+pub mod Tally
+pub mod View
+pub mod Demand3
