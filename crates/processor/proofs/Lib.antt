@@ -1,3 +1,4 @@
+pub mod CloseLaws
 pub mod EventLaws
 pub mod LineLaws
 pub mod PackageLaws

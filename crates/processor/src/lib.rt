@@ -3,7 +3,10 @@ pub mod close;
 pub mod event;
 pub mod line;
 pub mod packages;
+pub mod packets;
 pub mod reading;
+pub mod slots;
+pub mod waiting;
 
 use state::State;
 

@@ -1,0 +1,66 @@
+use Prim.Native.Nat.{_≤_, _-_, _+_}
+use mathlib.Core.Bool.{_&&_}
+use mathlib.Core.Path.{_≡_, refl, ap, _∙_}
+use native.Mathlib.Omega.{arith}
+use lib.ListN.{length, drop}
+use denote.Ref.{now}
+use Rattle.wire.specs.Lists.{all}
+use Rattle.wire.proofs.Lists.{scan-step, scan-end}
+use Rattle.packet.specs.Read.{recordGood}
+use borrow.Author.Needs.{needs}
+use Rattle.processor.proofs.slots.all_good.Statement.{statement}
+use Rattle.processor.proofs.slots.all_good.Tie as tie
+
+abbrev Inv-loop : tie.InvT-loop
+Inv-loop slots ok₀ i₀ ok i = (i ≤ length slots) × ((ok && all recordGood (drop i slots)) ≡ all recordGood slots)
+
+abbrev μ-loop : tie.MeasureT-loop
+μ-loop slots ok₀ i₀ ok i = length slots - i
+
+loop-holds : tie.Need-loop-holds Inv-loop μ-loop
+loop-holds c = (omega arith, refl)
+
+mul-record-good : tie.Need-mul-record-good Inv-loop μ-loop
+mul-record-good c = search needs
+
+shared-slice-read-record-good : tie.Need-shared-slice-read-record-good Inv-loop μ-loop
+shared-slice-read-record-good c = search needs
+
+record-good-requires : tie.Need-record-good-requires Inv-loop μ-loop
+record-good-requires c κs = search needs
+
+add-i : tie.Need-add-i Inv-loop μ-loop
+add-i c = search needs
+
+loop-less : tie.Need-loop-less Inv-loop μ-loop
+loop-less c = search needs
+
+loop-again : tie.Need-loop-again Inv-loop μ-loop
+loop-again c =
+    let l = c .before .before .before in
+    let xs = now (l .before .before .args .slots) in
+    let i = l .loop .i in (
+      omega arith,
+      ap (λ b. (l .loop .ok && b) && all recordGood (drop (i + 1) xs)) (c .record-good .ensures)
+          ∙ scan-step recordGood xs 0 (l .loop .ok) i (omega arith) (l .loop .inv .1),
+    )
+
+returns : tie.Need-returns Inv-loop μ-loop
+returns c =
+    let l = c .before in
+    scan-end recordGood (now (l .before .before .args .slots)) 0 (l .loop .ok) (l .loop .i) (omega arith) (l .loop .inv .1)
+
+pub all-good-spec : {M : Type 1} → statement M
+all-good-spec =
+    tie.close
+    (tie.spec
+    Inv-loop
+    μ-loop
+    loop-holds
+    mul-record-good
+    shared-slice-read-record-good
+    record-good-requires
+    add-i
+    loop-less
+    loop-again
+    returns)
