@@ -1,5 +1,6 @@
 -- The two columns (document 01, "One event", rules 3 and 4). Assumes nothing.
 use mathlib.Core.Bool.{Bool, cond}
+use mathlib.Core.List.{List, [], _∷_}
 use Prim.Native.Nat.{ℕ, _/_}
 use lib.Dec.{leb}
 use lib.IntN.{ℤ, pos, negsuc, _+ℤ_, _-ℤ_, _*ℤ_}
@@ -27,3 +28,8 @@ energyColumn t ktof = floorZ (pos ktof +ℤ pos 360448 -ℤ pos t) 4096
 unfoldable pub bounded : ℤ → Column
 bounded (pos a) = cond (leb a 127) (Inside a) Outside
 bounded (negsuc a) = Outside
+
+-- "f_m*: u −1 → −1, 0 → 0, 3,640 → 0, 3,641 → 1, 466,033 → 127, 466,034 → 128": u, and its column
+abbrev pub columnCases : List (ℤ × ℤ)
+columnCases =
+    (negsuc 0, negsuc 0) ∷ (pos 0, pos 0) ∷ (pos 3640, pos 0) ∷ (pos 3641, pos 1) ∷ (pos 466033, pos 127) ∷ (pos 466034, pos 128) ∷ []

@@ -7,3 +7,5 @@ pub mod Kept
 pub mod Balance
 pub mod Places
 pub mod Theorem
+pub mod Starred
+pub mod Corollaries

@@ -38,12 +38,12 @@ module _ {A : Type 0} (P : A → Type 0) where
   All-join true x l h a = (h, a)
   All-join false x l h a = a
 
-  All-keep : (p : A → Bool) (l : List A) → All P l → All P (keep p l)
+  pub All-keep : (p : A → Bool) (l : List A) → All P l → All P (keep p l)
   unfolding keep
   All-keep p [] a = tt
   All-keep p (x ∷ xs) a = All-join (p x) x (keep p xs) (a .0) (All-keep p xs (a .1))
 
-  All-sampled : (p : A → Bool) (N lim : ℕ) (l : List A) → All P l → All P (sampled p N lim l)
+  pub All-sampled : (p : A → Bool) (N lim : ℕ) (l : List A) → All P l → All P (sampled p N lim l)
   unfolding sampled
   All-sampled p N lim l a =
       let k : ℕ = replacedBy p N lim l in

@@ -2,3 +2,4 @@ pub mod Calls
 pub mod Tally
 pub mod View
 pub mod Demand3
+pub mod Cases
