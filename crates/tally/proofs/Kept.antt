@@ -171,8 +171,8 @@ told-inv t bytes (LoadAt a) e v h = addressed-inv t a (t .reach) v h (loadat-wit
 
 -- ---- packages
 
-load-tests : (a b d f g h : Bool) → isPlaced (cond a (cond b (cond d 6 (cond f (cond g (cond h 0 10) 9) 8)) 1) 1) ≡ true → (d ≡ false) × (g ≡ true)
-load-tests true true false true true h k = (refl, refl)
+pub load-tests : (a b d f g h : Bool) → isPlaced (cond a (cond b (cond d 6 (cond f (cond g (cond h 0 10) 9) 8)) 1) 1) ≡ true → (d ≡ false) × (f ≡ true) × (g ≡ true)
+load-tests true true false true true h k = (refl, refl, refl)
 load-tests true true false true false h k = absurd (false≢true k)
 load-tests true true false false g h k = absurd (false≢true k)
 load-tests true true true f g h k = absurd (false≢true k)
@@ -183,7 +183,7 @@ placed-inv : (t : Tally) (bytes : List ℕ) (staging : Lent) (echo : List ℕ) �
 unfolding loadNumberFor packageNumber
 placed-inv t bytes staging echo v h =
     let k = load-tests (eqb (length (found staging (t .staging))) stagingBytes) (eqb (length echo) echoBytes) (loadWaitsFor t) (formed bytes) (fits bytes (t .next)) (eqb (receivedSum bytes) (computedSum bytes)) h in
-    let f = leb-true (t .next + placedBytes bytes) stagingBytes (k .1) in
+    let f = leb-true (t .next + placedBytes bytes) stagingBytes (k .2) in
     record {
       events-most = v .events-most;
       events-range = v .events-range;

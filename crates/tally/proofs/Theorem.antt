@@ -94,10 +94,10 @@ module _ (t : Tally) (v : Inv t) where
 -- ---- any list of calls
 
 module _ (t : Tally) (c : Call) (cs : List Call) (v : Inv t) (l : Lawful (view t) (c ∷ cs)) where
-  next-inv : Inv (tnext t c)
+  pub next-inv : Inv (tnext t c)
   next-inv = step-inv t c (l .0) v
 
-  next-lawful : Lawful (view (tnext t c)) cs
+  pub next-lawful : Lawful (view (tnext t c)) cs
   next-lawful = subst (λ w. Lawful w cs) (step-next t v c (l .1 .0)) (l .1 .1)
 
 all-answers : (cs : List Call) (t : Tally) → Inv t → Lawful (view t) cs → replies (view t) cs ≡ treplies t cs
@@ -244,11 +244,11 @@ module _ (tables staging : List ℕ) where
     reach = 0;
   }
 
-  fresh-view : freshWorld tables staging ≡ view start
+  pub fresh-view : freshWorld tables staging ≡ view start
   unfolding view
   fresh-view = λ i. record { state = fresh-state i; tables = tables; staging = staging; slots = no-slots start refl i }
 
-  fresh-inv : Inv start
+  pub fresh-inv : Inv start
   unfolding loadsIn keep
   fresh-inv = record {
     events-most = omega arith;
