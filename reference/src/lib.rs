@@ -17,6 +17,7 @@ pub mod reader;
 pub mod commands;
 pub mod loads;
 
+pub mod judged;
 pub mod processor;
 pub mod station;
 

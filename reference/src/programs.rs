@@ -12,11 +12,11 @@ use crate::reader::{self, Body};
 use crate::station::Station;
 use crate::tables::TABLE_BYTES;
 
-/// Runs a program on `tables.bin`, standard input and standard output.
-pub fn run(form: Form) -> Result<()> {
+/// Runs a program on `tables.bin`, standard input and standard output; `judged` as in a station.
+pub fn run(form: Form, judged: bool) -> Result<()> {
     let mut input = BufReader::with_capacity(1 << 16, stdin().lock());
     let mut out = BufWriter::with_capacity(1 << 16, stdout().lock());
-    program(form, tables_file(), &mut input, &mut out)?;
+    program(form, judged, tables_file(), &mut input, &mut out)?;
     out.flush()
 }
 
@@ -31,10 +31,17 @@ fn tables_file() -> Vec<u8> {
     tables
 }
 
-pub fn program(form: Form, tables: Vec<u8>, input: &mut impl Read, out: &mut impl Write) -> Result<()> {
+pub fn program(
+    form: Form,
+    judged: bool,
+    tables: Vec<u8>,
+    input: &mut impl Read,
+    out: &mut impl Write,
+) -> Result<()> {
     let Some(mut station) = Station::new(tables) else {
         return writeln!(out, "refused 1");
     };
+    station.judged = judged;
     loop {
         match (read(input, form), form) {
             (Ok(Some(call)), Form::Minute) => minute(&mut station, call, out)?,

@@ -3,6 +3,7 @@
 
 use crate::causes::Number;
 use crate::commands::ECHO_BYTES;
+use crate::judged;
 use crate::loads::STAGING_BYTES;
 use crate::packets::OUTPUT_BYTES;
 use crate::processor::{Closed, Processor};
@@ -18,6 +19,8 @@ pub struct Station {
     pub slots: Vec<u32>,
     pub echo: [u8; ECHO_BYTES],
     pub output: Vec<u8>,
+    /// Whether an event's call also judges the limits of a state that goes by value.
+    pub judged: bool,
 }
 
 impl Station {
@@ -30,12 +33,18 @@ impl Station {
             slots: vec![0; SLOTS],
             echo: [0; ECHO_BYTES],
             output: vec![0; OUTPUT_BYTES],
+            judged: false,
         })
     }
 
     #[inline]
     pub fn event(&mut self, event: &Event) -> Number {
-        self.processor.event(event, &self.tables, &mut self.slots)
+        if !self.judged {
+            return self.processor.event(event, &self.tables, &mut self.slots);
+        }
+        let (number, next) = judged::event(self.processor, event, &self.tables, &mut self.slots);
+        self.processor = next;
+        number
     }
 
     pub fn reading(&mut self, counts: &[u16; 8]) -> Number {

@@ -6,7 +6,7 @@ use reference::tables::TABLE_BYTES;
 
 fn run_on(form: Form, tables: Vec<u8>, stream: &[u8]) -> String {
     let mut out = Vec::new();
-    program(form, tables, &mut &stream[..], &mut out).unwrap();
+    program(form, false, tables, &mut &stream[..], &mut out).unwrap();
     String::from_utf8(out).unwrap()
 }
 

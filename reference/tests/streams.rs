@@ -88,7 +88,7 @@ fn every_cause_of_a_short_stream_occurs() {
         let stream = stream(seed, 5_000, Form::Replay);
         assert_eq!(stream.calls, 5_000);
         let mut out = Vec::new();
-        program(Form::Replay, stream.tables, &mut &stream.bytes[..], &mut out).unwrap();
+        program(Form::Replay, false, stream.tables, &mut &stream.bytes[..], &mut out).unwrap();
         for line in String::from_utf8(out).unwrap().lines() {
             let mut words = line.split(' ').map(str::to_string);
             let kind = words.next().unwrap();
@@ -123,7 +123,7 @@ fn minute_and_replay_read_the_example_alike() {
     let example = stories::example();
     let run = |form| {
         let mut out = Vec::new();
-        program(form, example.tables.clone(), &mut &example.bytes[..], &mut out).unwrap();
+        program(form, false, example.tables.clone(), &mut &example.bytes[..], &mut out).unwrap();
         String::from_utf8(out).unwrap()
     };
     let line = run(Form::Minute);

@@ -12,7 +12,7 @@ use wire::write::put_zeros;
 pub const ECHO_BYTES: usize = 128;
 
 // A digit 0-9 a-f.
-fn hex_digit(d: u8) -> u8
+pub fn hex_digit(d: u8) -> u8
     requires { ⌜ d < 16 ⌝ }
     ensures { λ r. ⌜ r ≡ hexDigit d ⌝ }
 {

@@ -1,7 +1,7 @@
 -- What the number 0 of a close says, the waiting commands one after the other, and the lengths of what a close writes.
 -- Assumes nothing.
 use mathlib.Core.Path.{_≡_, refl, sym, ap, _∙_}
-use mathlib.Core.Bool.{Bool, true, false, _&&_, cond}
+use mathlib.Core.Bool.{Bool, true, false, cond}
 use mathlib.Core.List.{List, [], _∷_, _++_}
 use Prim.Native.Nat.{ℕ, zero, suc, _+_, _*_, _≤_, _<_}
 use native.Mathlib.Omega.{arith}
@@ -18,7 +18,7 @@ use Rattle.settings.specs.declared.Settings.{Settings}
 use Rattle.settings.specs.Settings.{slotCount}
 use Rattle.tables.specs.Tables.{tableBytes}
 use Rattle.sort.specs.declared.counts.Counts.{Counts}
-use Rattle.packet.specs.Packet.{packetBytes, codes, settingsBytes, ratePacket, samplePacket, beaconPacket}
+use Rattle.packet.specs.Packet.{packetBytes, codes, ratePacket, samplePacket, beaconPacket}
 use Rattle.packet.specs.Rate.{countLimit}
 use Rattle.packet.specs.Read.{recordGood}
 use Rattle.packet.specs.TableSum.{tableSum}

@@ -68,9 +68,9 @@ fn set_addresses(s: State, next: u32, reach: u32) -> State
     ensures { λ r. ⌜ r ≡ addressed s next reach ⌝ }
 {
     let mut t = s;
+    t.accepted = s.accepted + 1;
     t.next = next;
     t.reach = reach;
-    t.accepted = s.accepted + 1;
     t
 }
 

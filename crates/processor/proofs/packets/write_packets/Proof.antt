@@ -10,7 +10,7 @@ use Rattle.wire.proofs.Bytes.{then, put-all, put-mid}
 use Rattle.packet.specs.Packet.{packetBytes, ratePacket, beaconPacket}
 use Rattle.packet.specs.TableSum.{tableSum}
 use Rattle.state.proofs.LimitLaws.{within}
-use Rattle.processor.specs.Close.{samplePackets, outBytes, samplesOf, packetsOf}
+use Rattle.processor.specs.Close.{samplePackets, samplesOf, packetsOf}
 use Rattle.processor.proofs.CloseLaws.{totals-fit, boxes-fit, beacons-fit, length-rate, length-samples, length-beacon}
 use borrow.Author.Needs.{needs}
 use Rattle.processor.proofs.packets.write_packets.Statement.{statement}

@@ -1,0 +1,57 @@
+use Prim.Native.Nat.{_≤_, _+_, _-_}
+use mathlib.Core.Path.{_≡_}
+use native.Mathlib.Omega.{arith}
+use lib.ListN.{length, drop}
+use denote.Ref.{now}
+use Rattle.minute.specs.Line.{lineLength}
+use Rattle.minute.proofs.LineLaws.{length-step, length-stop, length-end}
+use borrow.Author.Needs.{needs}
+use Rattle.minute.proofs.line_length.Statement.{statement}
+use Rattle.minute.proofs.line_length.Tie as tie
+
+abbrev Inv-loop : tie.InvT-loop
+Inv-loop body i₀ i = (i ≤ length body) × (lineLength body ≡ i + lineLength (drop i body))
+
+abbrev μ-loop : tie.MeasureT-loop
+μ-loop body i₀ i = length body - i
+
+loop-holds : tie.Need-loop-holds Inv-loop μ-loop
+loop-holds c = (omega arith, omega arith)
+
+shared-slice-read-if1 : tie.Need-shared-slice-read-if1 Inv-loop μ-loop
+shared-slice-read-if1 c = search needs
+
+returns : tie.Need-returns Inv-loop μ-loop
+returns c =
+    let l = c .before .before .before in
+    (omega (arith, length-stop (now (l .before .args .body)) (l .loop .i) (omega arith) (c .if1 .taken)), omega arith)
+
+add-i : tie.Need-add-i Inv-loop μ-loop
+add-i c = search needs
+
+loop-less : tie.Need-loop-less Inv-loop μ-loop
+loop-less c = search needs
+
+loop-again : tie.Need-loop-again Inv-loop μ-loop
+loop-again c =
+    let l = c .before .before .before in
+    (omega arith, omega (arith, length-step (now (l .before .args .body)) (l .loop .i) (omega arith) (c .if1 .left)))
+
+returns-2 : tie.Need-returns-2 Inv-loop μ-loop
+returns-2 c =
+    let l = c .before in
+    (omega (arith, length-end (now (l .before .args .body)) (l .loop .i) (omega arith)), omega arith)
+
+pub line-length-spec : {M : Type 1} → statement M
+line-length-spec =
+    tie.close
+    (tie.spec
+    Inv-loop
+    μ-loop
+    loop-holds
+    shared-slice-read-if1
+    returns
+    add-i
+    loop-less
+    loop-again
+    returns-2)

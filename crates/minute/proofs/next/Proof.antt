@@ -1,0 +1,51 @@
+use native.Mathlib.Omega.{arith}
+use borrow.Author.Needs.{needs}
+use Rattle.minute.proofs.next.Statement.{statement}
+use Rattle.minute.proofs.next.Tie as tie
+
+fill-requires : tie.Need-fill-requires
+fill-requires c κs = search needs
+
+same-length : tie.Need-same-length
+same-length c = search needs
+
+returns : tie.Need-returns
+returns c = search needs
+
+slice-read-kind : tie.Need-slice-read-kind
+slice-read-kind c = search needs
+
+body-bytes-requires : tie.Need-body-bytes-requires
+body-bytes-requires c κs = search needs
+
+same-length-2 : tie.Need-same-length-2
+same-length-2 c = search needs
+
+returns-2 : tie.Need-returns-2
+returns-2 c = search needs
+
+whole-requires : tie.Need-whole-requires
+whole-requires c κs =
+    let n = c .before .before .body-bytes .ensures in
+    (c .before .before .before .before .before .before .before .before .fill .ensures, (omega (arith, n .0), n .1))
+
+same-length-3 : tie.Need-same-length-3
+same-length-3 c = search needs
+
+returns-3 : tie.Need-returns-3
+returns-3 c = search needs
+
+pub next-spec : {M : Type 1} → statement M
+next-spec =
+    tie.close
+    (tie.spec
+    fill-requires
+    same-length
+    returns
+    slice-read-kind
+    body-bytes-requires
+    same-length-2
+    returns-2
+    whole-requires
+    same-length-3
+    returns-3)

@@ -1,0 +1,79 @@
+use mathlib.Core.Path.{_≡_}
+use lib.ListN.{length}
+use Rattle.stream.specs.Input.{Held}
+use borrow.Author.Needs.{needs}
+use Rattle.minute.proofs.run.Statement.{statement}
+use Rattle.minute.proofs.run.Tie as tie
+
+abbrev Inv-loop : tie.InvT-loop
+Inv-loop tables₀ staging slots₀ packets₀ echo₀ buffer₀ text₀ state₀ input₀ at₀ records₀ tables slots packets echo buffer text state input at records = (length tables ≡ length tables₀) × (length slots ≡ length slots₀) × (length packets ≡ length packets₀) × (length echo ≡ length echo₀) × (length buffer ≡ length buffer₀) × (length text ≡ length text₀) × Held input buffer
+
+abbrev μ-loop : tie.MeasureT-loop
+μ-loop tables₀ staging slots₀ packets₀ echo₀ buffer₀ text₀ state₀ input₀ at₀ records₀ tables slots packets echo buffer text state input at records = records
+
+fresh-requires : tie.Need-fresh-requires Inv-loop μ-loop
+fresh-requires c κs = search needs
+
+none-requires : tie.Need-none-requires Inv-loop μ-loop
+none-requires c κs = search needs
+
+loop-holds : tie.Need-loop-holds Inv-loop μ-loop
+loop-holds c = search needs
+
+step-requires : tie.Need-step-requires Inv-loop μ-loop
+step-requires c κs = search needs
+
+left-requires : tie.Need-left-requires Inv-loop μ-loop
+left-requires c κs = search needs
+
+loop-less : tie.Need-loop-less Inv-loop μ-loop
+loop-less c = search needs
+
+loop-again : tie.Need-loop-again Inv-loop μ-loop
+loop-again c = search needs
+
+flush-requires : tie.Need-flush-requires Inv-loop μ-loop
+flush-requires c κs = search needs
+
+same-length : tie.Need-same-length Inv-loop μ-loop
+same-length c = search needs
+
+same-length-2 : tie.Need-same-length-2 Inv-loop μ-loop
+same-length-2 c = search needs
+
+same-length-3 : tie.Need-same-length-3 Inv-loop μ-loop
+same-length-3 c = search needs
+
+same-length-4 : tie.Need-same-length-4 Inv-loop μ-loop
+same-length-4 c = search needs
+
+same-length-5 : tie.Need-same-length-5 Inv-loop μ-loop
+same-length-5 c = search needs
+
+same-length-6 : tie.Need-same-length-6 Inv-loop μ-loop
+same-length-6 c = search needs
+
+returns : tie.Need-returns Inv-loop μ-loop
+returns c = search needs
+
+pub run-spec : {M : Type 1} → statement M
+run-spec =
+    tie.close
+    (tie.spec
+    Inv-loop
+    μ-loop
+    fresh-requires
+    none-requires
+    loop-holds
+    step-requires
+    left-requires
+    loop-less
+    loop-again
+    flush-requires
+    same-length
+    same-length-2
+    same-length-3
+    same-length-4
+    same-length-5
+    same-length-6
+    returns)

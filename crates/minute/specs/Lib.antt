@@ -1,0 +1,2 @@
+-- What the contracts of minute cite.
+pub mod Line

@@ -1,0 +1,158 @@
+// The calls, each with its answer printed.
+ghost use mathlib.Core.Path.{_≡_};
+ghost use lib.ListN.{length};
+ghost use Rattle.stream.specs.Record.{LongAs};
+use crate::packets::print_packet;
+use crate::records::PACKAGE;
+use processor::close::Closed;
+use sort::counts::Counts;
+use state::State;
+
+fn event(
+    state: State,
+    tables: &[u8],
+    slots: &mut [u32],
+    body: &[u8],
+    text: &mut [u8],
+    at: &mut usize,
+) -> State
+    requires { ⌜ length (now body) ≡ 7 ⌝ }
+{
+    let answer = stream::record::event(state, tables, slots, body);
+    stream::text::bytes(text, at, b"event");
+    stream::text::number(text, at, answer.number as u64);
+    stream::text::line_end(text, at);
+    answer.state
+}
+
+fn reading(state: State, body: &[u8], text: &mut [u8], at: &mut usize) -> State
+    requires { ⌜ length (now body) ≡ 16 ⌝ }
+{
+    let answer = stream::record::reading(state, body);
+    stream::text::bytes(text, at, b"reading");
+    stream::text::number(text, at, answer.number as u64);
+    stream::text::line_end(text, at);
+    answer.state
+}
+
+// The number and the whole echo buffer.
+fn print_echo(text: &mut [u8], at: &mut usize, number: u8, echo: &[u8]) {
+    stream::text::number(text, at, number as u64);
+    stream::text::byte(text, at, b' ');
+    stream::text::hex(text, at, echo);
+    stream::text::line_end(text, at);
+}
+
+fn line(state: State, echo: &mut [u8], body: &[u8], text: &mut [u8], at: &mut usize) -> State {
+    let answer = processor::line::line(state, body, echo);
+    stream::text::bytes(text, at, b"line");
+    print_echo(text, at, answer.number, echo);
+    answer.state
+}
+
+fn package(
+    state: State,
+    staging: &mut [u8],
+    echo: &mut [u8],
+    body: &[u8],
+    text: &mut [u8],
+    at: &mut usize,
+) -> State {
+    let answer = processor::packages::package(state, body, staging, echo);
+    stream::text::bytes(text, at, b"package");
+    print_echo(text, at, answer.number, echo);
+    answer.state
+}
+
+// A line for the boxes and one for the beacons.
+fn print_counts(text: &mut [u8], at: &mut usize, counts: Counts) {
+    stream::text::bytes(text, at, b"boxes");
+    stream::text::numbers(text, at, &counts.boxes);
+    stream::text::line_end(text, at);
+    stream::text::bytes(text, at, b"beacons");
+    stream::text::numbers(text, at, &counts.beacons);
+    stream::text::line_end(text, at);
+}
+
+fn print_out(text: &mut [u8], at: &mut usize, packet: &[u8]) {
+    stream::text::bytes(text, at, b"out ");
+    stream::text::hex(text, at, packet);
+    stream::text::line_end(text, at);
+}
+
+// A line for each packet.
+fn print_packets(text: &mut [u8], at: &mut usize, packets: &[u8]) {
+    let mut rest = packets;
+    while packet::header::PACKET_BYTES <= rest.len() {
+        print_out(text, at, &rest[0..packet::header::PACKET_BYTES]);
+        rest = &rest[packet::header::PACKET_BYTES..];
+    }
+}
+
+// The ended frame, taken, the filled slots, the counts and the packets.
+fn print_closed(text: &mut [u8], at: &mut usize, frame: u16, closed: Closed, packets: &[u8]) {
+    let counts = closed.counts;
+    stream::text::number(text, at, frame as u64);
+    stream::text::number(text, at, closed.taken as u64);
+    stream::text::number(text, at, closed.filled as u64);
+    stream::text::line_end(text, at);
+    print_counts(text, at, counts);
+    print_packets(text, at, packets);
+}
+
+// Behind the number: nothing of a refused close.
+fn print_close(text: &mut [u8], at: &mut usize, frame: u16, closed: Closed, packets: &[u8]) {
+    stream::text::bytes(text, at, b"close");
+    stream::text::number(text, at, closed.number as u64);
+    if closed.number == processor::CARRIED_OUT {
+        print_closed(text, at, frame, closed, packets);
+    } else {
+        stream::text::line_end(text, at);
+    }
+}
+
+fn close(
+    state: State,
+    tables: &mut [u8],
+    staging: &[u8],
+    slots: &mut [u32],
+    packets: &mut [u8],
+    body: &[u8],
+    text: &mut [u8],
+    at: &mut usize,
+) -> State
+    requires { ⌜ length (now body) ≡ 4 ⌝ }
+{
+    let time = wire::read::u32_at(body, 0);
+    let closed = processor::close::close(state, time, tables, staging, slots, packets);
+    print_close(text, at, state.frame, closed, packets);
+    closed.state
+}
+
+// One record.
+pub fn carry_out(
+    kind: u8,
+    state: State,
+    tables: &mut [u8],
+    staging: &mut [u8],
+    slots: &mut [u32],
+    packets: &mut [u8],
+    echo: &mut [u8],
+    body: &[u8],
+    text: &mut [u8],
+    at: &mut usize,
+) -> State
+    requires { ⌜ LongAs kind (length (now body)) ⌝ }
+{
+    match kind {
+        stream::record::EVENT => event(state, tables, slots, body, text, at),
+        stream::record::READING => reading(state, body, text, at),
+        stream::record::LINE => line(state, echo, body, text, at),
+        stream::record::CLOSE => close(state, tables, staging, slots, packets, body, text, at),
+        PACKAGE => package(state, staging, echo, body, text, at),
+        _ => {
+            print_packet(text, at, body);
+            state
+        }
+    }
+}

@@ -1,0 +1,119 @@
+// Reads tables.bin and a list of calls from standard input, carries them out and prints every answer.
+mod calls;
+mod packets;
+mod records;
+
+ghost use Rattle.stream.specs.Input.{Held};
+use libc::STDOUT_FILENO;
+use state::State;
+use stream::input::Input;
+use stream::record::MOST_RECORDS;
+use stream::record::Next;
+use stream::record::Step;
+use stream::record::going_on;
+use stream::record::left;
+use stream::record::stopped;
+
+// The next record, or the end.
+fn step(
+    state: State,
+    input: Input,
+    tables: &mut [u8],
+    staging: &mut [u8],
+    slots: &mut [u32],
+    packets: &mut [u8],
+    echo: &mut [u8],
+    buffer: &mut [u8],
+    text: &mut [u8],
+    at: &mut usize,
+) -> Step
+    requires { ⌜ Held input (now buffer) ⌝ }
+    ensures { λ r. ⌜ Held (r .input) (now (buffer .exit)) ⌝ }
+{
+    let found = records::next(buffer, input);
+    match found {
+        Next::End => stopped(state),
+        Next::Bad => {
+            stream::text::bad_record(text, at);
+            stopped(state)
+        }
+        Next::Record {
+            kind,
+            from,
+            to,
+            end,
+        } => {
+            let body = &buffer[from..to];
+            let after = calls::carry_out(
+                kind,
+                state,
+                tables,
+                staging,
+                slots,
+                packets,
+                echo,
+                body,
+                text,
+                at,
+            );
+            going_on(after, to, end)
+        }
+    }
+}
+
+// Carries out record after record until the input ends or a record is bad.
+fn run(
+    tables: &mut [u8],
+    staging: &mut [u8],
+    slots: &mut [u32],
+    packets: &mut [u8],
+    echo: &mut [u8],
+    buffer: &mut [u8],
+    text: &mut [u8],
+) {
+    let mut state = state::fresh();
+    let mut input = stream::input::none();
+    let mut at: usize = 0;
+    let mut records = MOST_RECORDS;
+    while 0 < records {
+        let done = step(
+            state,
+            input,
+            tables,
+            staging,
+            slots,
+            packets,
+            echo,
+            buffer,
+            text,
+            &mut at,
+        );
+        state = done.state;
+        input = done.input;
+        records = left(records, done.more);
+    }
+    stream::text::flush(text, &mut at);
+}
+
+fn main() {
+    let mut tables = [0u8; tables::TABLE_BYTES];
+    if !stream::files::read_tables(&mut tables) {
+        io::write_all(STDOUT_FILENO, b"refused 1\n");
+        return;
+    }
+    let mut staging = [0u8; load::staging::STAGING_BYTES];
+    let mut slots = [0u32; settings::SLOTS as usize];
+    let mut packets = [0u8; processor::packets::OUT_BYTES];
+    let mut echo = [0u8; command::echo::ECHO_BYTES];
+    let mut buffer = [0u8; stream::input::INPUT_BYTES];
+    let mut text = [0u8; stream::text::TEXT_BYTES];
+    run(
+        &mut tables,
+        &mut staging,
+        &mut slots,
+        &mut packets,
+        &mut echo,
+        &mut buffer,
+        &mut text,
+    );
+}

@@ -1,0 +1,35 @@
+use mathlib.Core.Path.{sym}
+use borrow.Author.Tests.{le-leb, lt-leb}
+use Rattle.stream.specs.Record.{recordAnswer, recordSlots}
+use borrow.Author.Needs.{needs}
+use Rattle.stream.proofs.record.event.Statement.{statement}
+use Rattle.stream.proofs.record.event.Tie as tie
+
+shared-slice-read-if1 : tie.Need-shared-slice-read-if1
+shared-slice-read-if1 c = search needs
+
+returns : tie.Need-returns
+unfolding recordAnswer recordSlots
+returns c = let n = lt-leb _ _ (c .if1 .taken) in (simp n, simp n)
+
+event-in-requires : tie.Need-event-in-requires
+event-in-requires c κs = search needs
+
+event-requires : tie.Need-event-requires
+event-requires c κs = search needs
+
+same-length : tie.Need-same-length
+same-length c = search needs
+
+returns-2 : tie.Need-returns-2
+unfolding recordAnswer recordSlots
+returns-2 c =
+    let e = c .before .before in
+    let i = e .before in
+    let n = le-leb _ _ (i .before .before .if1 .left) in
+    (simp (n, sym (i .event-in .ensures)) (e .event .ensures .0), simp (n, sym (i .event-in .ensures)) (e .event .ensures .1))
+
+pub event-spec : {M : Type 1} → statement M
+event-spec =
+    tie.close
+    (tie.spec shared-slice-read-if1 returns event-in-requires event-requires same-length returns-2)

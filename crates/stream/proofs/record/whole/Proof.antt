@@ -1,0 +1,56 @@
+use native.Mathlib.Nat.{add-sub-cancel-left}
+use native.Mathlib.Omega.{arith}
+use borrow.Author.Needs.{needs}
+use Rattle.stream.proofs.record.whole.Statement.{statement}
+use Rattle.stream.proofs.record.whole.Tie as tie
+
+add-fill : tie.Need-add-fill
+add-fill c = search needs
+
+fill-requires : tie.Need-fill-requires
+fill-requires c κs = search needs
+
+sub-if1 : tie.Need-sub-if1
+sub-if1 c = search needs
+
+add-if1 : tie.Need-add-if1
+add-if1 c = search needs
+
+same-length : tie.Need-same-length
+same-length c = search needs
+
+returns : tie.Need-returns
+returns c = search needs
+
+add-t11 : tie.Need-add-t11
+add-t11 c = search needs
+
+add-t12 : tie.Need-add-t12
+add-t12 c = search needs
+
+add-t14 : tie.Need-add-t14
+add-t14 c = search needs
+
+same-length-2 : tie.Need-same-length-2
+same-length-2 c = search needs
+
+returns-2 : tie.Need-returns-2
+returns-2 c =
+    let s = c .before .before .before .before .before .before in
+    (omega arith, omega arith, omega arith, omega arith, rw add-sub-cancel-left (s .pre .1 .1))
+
+pub whole-spec : {M : Type 1} → statement M
+whole-spec =
+    tie.close
+    (tie.spec
+    add-fill
+    fill-requires
+    sub-if1
+    add-if1
+    same-length
+    returns
+    add-t11
+    add-t12
+    add-t14
+    same-length-2
+    returns-2)

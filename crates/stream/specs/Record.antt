@@ -1,0 +1,65 @@
+-- Records and their bodies (document 01, "The program minute"). Assumes nothing.
+use mathlib.Core.Bool.{Bool, cond}
+use mathlib.Core.List.{List, [], _∷_}
+use mathlib.Core.Path.{_≡_}
+use Prim.Native.Nat.{ℕ, _-_, _/_, _%_, _≤_}
+use lib.Dec.{eqb, leb}
+use lib.ListN.{length, getD}
+use Rattle.wire.specs.Bytes.{at16}
+use Rattle.sort.specs.declared.event.Event.{Event}
+use Rattle.state.specs.declared.State.{State}
+use Rattle.processor.specs.declared.Answer.{Answer}
+use Rattle.processor.specs.Answer.{answered}
+use Rattle.processor.specs.Event.{eventAnswer, eventSlots}
+use Rattle.stream.specs.declared.record.Next.{Next}
+use Rattle.stream.specs.declared.record.Next.the-variants.{End, Bad, Record}
+
+-- "1 event (7 bytes ..), 2 reading (16), .. 4 close (4, time)": a body of n bytes has the length of its kind
+abbrev pub LongAs : (kind n : ℕ) → Type 0
+LongAs kind n = (kind ≡ 1 → n ≡ 7) × (kind ≡ 2 → n ≡ 16) × (kind ≡ 4 → n ≡ 4)
+
+-- a record that was found lies in the buffer behind its kind byte, and its body has the length of its kind
+abbrev pub FoundIn : Next → List ℕ → Type 0
+FoundIn End buffer = Unit {0}
+FoundIn Bad buffer = Unit {0}
+FoundIn (Record kind from to end) buffer = (1 ≤ from) × (from ≤ to) × (to ≤ end) × (end ≤ length buffer) × LongAs kind (to - from)
+
+-- ---- an event's body: "t, high, low, flags FLG0 1, FLG1 2, error 4, valid stop 8"
+
+abbrev pub flagOf : (flags value : ℕ) → Bool
+flagOf flags value = eqb (flags / value % 2) 1
+
+abbrev pub flagsOf : List ℕ → ℕ
+flagsOf body = getD body 6 0
+
+unfoldable pub eventIn : List ℕ → Event
+eventIn body = record {
+  t = at16 body 0;
+  high = at16 body 2;
+  low = at16 body 4;
+  flg0 = flagOf (flagsOf body) 1;
+  flg1 = flagOf (flagsOf body) 2;
+  error = flagOf (flagsOf body) 4;
+  stop = flagOf (flagsOf body) 8;
+}
+
+-- "a flag byte over 15 is refused by 2"; any other event is the call's
+unfoldable pub recordAnswer : State → (tables slots body : List ℕ) → Answer
+recordAnswer s tables slots body = cond (leb (flagsOf body) 15) (eventAnswer s tables slots (eventIn body)) (answered 2 s s)
+
+unfoldable pub recordSlots : State → (tables slots body : List ℕ) → List ℕ
+recordSlots s tables slots body = cond (leb (flagsOf body) 15) (eventSlots s tables slots (eventIn body)) slots
+
+-- ---- a reading's body: eight 16-bit counts
+
+abbrev pub countsIn : List ℕ → List ℕ
+countsIn body =
+    at16 body 0
+    ∷ at16 body 2
+    ∷ at16 body 4
+    ∷ at16 body 6
+    ∷ at16 body 8
+    ∷ at16 body 10
+    ∷ at16 body 12
+    ∷ at16 body 14
+    ∷ []

@@ -1,0 +1,177 @@
+// The bodies of the records that both programs read.
+ghost use mathlib.Core.Path.{_≡_};
+ghost use Prim.Native.Nat.{_+_, _≤_, _<_};
+ghost use lib.ListN.{length};
+ghost use Rattle.processor.specs.Reading.{readingAnswer};
+ghost use Rattle.stream.specs.Input.{Held, inputBytes};
+ghost use Rattle.stream.specs.Record.{LongAs, FoundIn, flagOf, eventIn, recordAnswer, recordSlots, countsIn};
+use crate::input::Input;
+use processor::Answer;
+use sort::event::Event;
+use state::State;
+
+// What stands next in the input.
+pub enum Next {
+    // It stopped before a kind byte.
+    End,
+    // No kind, or a short body.
+    Bad,
+    // A record, its body in the buffer from `from` to before `to`; the bytes from there to before `end` are not yet used.
+    Record {
+        kind: u8,
+        from: usize,
+        to: usize,
+        end: usize,
+    },
+}
+
+// Where a program stands after a record: the state, the input, and whether there is more to do.
+pub struct Step {
+    pub state: State,
+    pub input: Input,
+    pub more: bool,
+}
+
+// Nothing says that the input ends, so a program counts its records down from a number that no run uses up.
+pub const MOST_RECORDS: u64 = u64::MAX;
+
+// How many records are left.
+pub fn left(records: u64, more: bool) -> u64
+    requires { ⌜ 0 < records ⌝ }
+    ensures { λ r. ⌜ r < records ⌝ }
+{
+    if more { records - 1 } else { 0 }
+}
+
+// The program goes on with the input from `at` on.
+pub fn going_on(state: State, at: usize, end: usize) -> Step
+    ensures { λ r. ⌜ (r .input .at ≡ at) × (r .input .end ≡ end) ⌝ }
+{
+    Step {
+        state,
+        input: Input { at, end },
+        more: true,
+    }
+}
+
+// The end of a program.
+pub fn stopped(state: State) -> Step
+    ensures { λ r. ⌜ (r .input .at ≤ 0) × (r .input .end ≤ 0) ⌝ }
+{
+    let input = crate::input::none();
+    Step {
+        state,
+        input: input,
+        more: false,
+    }
+}
+
+// The kinds.
+pub const EVENT: u8 = 1;
+
+pub const READING: u8 = 2;
+
+pub const LINE: u8 = 3;
+
+pub const CLOSE: u8 = 4;
+
+// The lengths of the bodies.
+pub const EVENT_BYTES: usize = 7;
+
+pub const READING_BYTES: usize = 16;
+
+pub const CLOSE_BYTES: usize = 4;
+
+// The next record, whose body is the n bytes behind its first `head` ones.
+pub fn whole(buffer: &mut [u8], input: Input, kind: u8, head: usize, n: usize) -> Next
+    requires { ⌜ Held input (now buffer) ⌝ }
+    requires { ⌜ (1 ≤ head) × (head + n ≤ inputBytes) ⌝ }
+    requires { ⌜ LongAs kind n ⌝ }
+    ensures { λ r. ⌜ FoundIn r (now (buffer .exit)) ⌝ }
+{
+    let filled = crate::input::fill(buffer, input, head + n);
+    let at = filled.at;
+    let end = filled.end;
+    if end - at < head + n {
+        return Next::Bad;
+    }
+    Next::Record {
+        kind,
+        from: at + head,
+        to: at + head + n,
+        end,
+    }
+}
+
+// The flags' values in an event's last byte, and the largest that they make.
+const FLG0: u8 = 1;
+
+const FLG1: u8 = 2;
+
+const ERROR: u8 = 4;
+
+const STOP: u8 = 8;
+
+const LAST_FLAGS: u8 = 15;
+
+fn flag(flags: u8, value: u8) -> bool
+    requires { ⌜ 1 ≤ value ⌝ }
+    ensures { λ r. ⌜ r ≡ flagOf flags value ⌝ }
+{
+    flags / value % 2 == 1
+}
+
+fn event_in(body: &[u8]) -> Event
+    requires { ⌜ length (now body) ≡ 7 ⌝ }
+    ensures { λ r. ⌜ r ≡ eventIn (now (body .entry)) ⌝ }
+{
+    let flags = body[6];
+    Event {
+        t: wire::read::u16_at(body, 0),
+        high: wire::read::u16_at(body, 2),
+        low: wire::read::u16_at(body, 4),
+        flg0: flag(flags, FLG0),
+        flg1: flag(flags, FLG1),
+        error: flag(flags, ERROR),
+        stop: flag(flags, STOP),
+    }
+}
+
+// One event. A flag byte over 15 is a field over its range.
+pub fn event(state: State, tables: &[u8], slots: &mut [u32], body: &[u8]) -> Answer
+    requires { ⌜ length (now body) ≡ 7 ⌝ }
+    ensures answer { λ r. ⌜ r ≡ recordAnswer state (now (tables .entry)) (now (slots .entry)) (now (body .entry)) ⌝ }
+    ensures slots { λ r. ⌜ now (slots .exit) ≡ recordSlots state (now (tables .entry)) (now (slots .entry)) (now (body .entry)) ⌝ }
+{
+    if LAST_FLAGS < body[6] {
+        return Answer {
+            number: processor::FIELD_OVER_RANGE,
+            state,
+        };
+    }
+    processor::event::event(state, tables, slots, event_in(body))
+}
+
+fn counts_in(body: &[u8]) -> [u16; 8]
+    requires { ⌜ length (now body) ≡ 16 ⌝ }
+    ensures { λ r. ⌜ r ≡ countsIn (now (body .entry)) ⌝ }
+{
+    [
+        wire::read::u16_at(body, 0),
+        wire::read::u16_at(body, 2),
+        wire::read::u16_at(body, 4),
+        wire::read::u16_at(body, 6),
+        wire::read::u16_at(body, 8),
+        wire::read::u16_at(body, 10),
+        wire::read::u16_at(body, 12),
+        wire::read::u16_at(body, 14),
+    ]
+}
+
+// One second reading.
+pub fn reading(state: State, body: &[u8]) -> Answer
+    requires { ⌜ length (now body) ≡ 16 ⌝ }
+    ensures { λ r. ⌜ r ≡ readingAnswer state (countsIn (now (body .entry))) ⌝ }
+{
+    processor::reading::reading(state, counts_in(body))
+}

@@ -1,0 +1,69 @@
+//! What the contract also asks of a call: the state goes in and comes out by value, and its
+//! limits are judged each time. For the benchmark's second row.
+
+use crate::causes::{Number, BUFFER};
+use crate::commands::Command;
+use crate::loads::STAGING_BYTES;
+use crate::processor::*;
+use crate::samples::SLOTS;
+use crate::sorting::Event;
+
+/// "State limits" of document 01.
+pub fn within_limits(p: &Processor) -> bool {
+    let counts = p.counts.boxes.iter().chain(&p.counts.beacons).all(|n| *n <= p.taken);
+    let samples = p.samples.used <= SLOTS && p.samples.used.max(p.samples.replaced) <= p.taken as usize;
+    let totals = p.totals.iter().all(|n| *n <= 65_535 * p.readings);
+    let commands = p.accepted <= MOST_COMMANDS && p.waits <= p.accepted && waiting_lawful(p);
+    let addresses = p.addresses.next <= p.addresses.reach && p.addresses.reach <= STAGING_BYTES;
+    let settings = p.settings.limhi as usize <= SLOTS;
+    p.taken <= MOST_EVENTS
+        && counts
+        && samples
+        && p.readings <= MOST_READINGS
+        && totals
+        && commands
+        && addresses
+        && settings
+}
+
+/// Each waiting command is one that a line gives, and at most one is a load.
+fn waiting_lawful(p: &Processor) -> bool {
+    let lawful = |command: &Option<Command>| match command {
+        Some(Command::Limhi(value)) => *value as usize <= SLOTS,
+        Some(Command::Load(load)) => load.lawful(p.addresses.reach),
+        Some(Command::LoadZero | Command::LoadAt(_)) | None => false,
+        Some(_) => true,
+    };
+    let waiting = &p.waiting[..p.waits];
+    let loads = waiting.iter().filter(|c| matches!(c, Some(Command::Load(_)))).count();
+    waiting.iter().all(lawful) && loads <= 1
+}
+
+#[inline(never)]
+pub fn event(p: Processor, event: &Event, tables: &[u8], slots: &mut [u32]) -> (Number, Processor) {
+    let mut next = p;
+    let number = if within_limits(&p) { next.event(event, tables, slots) } else { BUFFER };
+    (number, next)
+}
+
+#[cfg(test)]
+mod tests {
+    use super::*;
+
+    #[test]
+    fn a_fresh_state_is_within_limits_and_each_limit_counts() {
+        let fresh = Processor::FRESH;
+        assert!(within_limits(&fresh));
+        assert!(!within_limits(&Processor { taken: MOST_EVENTS + 1, ..fresh }));
+        assert!(!within_limits(&Processor { readings: MOST_READINGS + 1, ..fresh }));
+        assert!(!within_limits(&Processor { accepted: MOST_COMMANDS + 1, ..fresh }));
+        assert!(!within_limits(&Processor { waits: 1, ..fresh }));
+        let mut p = fresh;
+        p.counts.boxes[116] = 1;
+        assert!(!within_limits(&p));
+        p.taken = 1;
+        assert!(within_limits(&p));
+        p.totals[7] = 1;
+        assert!(!within_limits(&p));
+    }
+}

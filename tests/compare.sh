@@ -1,0 +1,68 @@
+#!/usr/bin/env bash
+# The proved programs against the second implementation (reference/), byte for byte.
+#   tests/compare.sh                    the fixed set that the gate runs
+#   tests/compare.sh FROM TO [CALLS]    a stream of CALLS calls (5,000) for each seed FROM to TO, for replay
+# A difference prints the seed and the first differing line. At the end: how often each number was answered.
+# The proved programs stand in target/bin (rt check); the second implementation is built here.
+set -u
+cd "$(dirname "$0")/.." || exit 1
+proved=$PWD/target/bin
+plain=$PWD/reference/target/release
+(cd reference && cargo build --release --offline --quiet) || exit 1
+work=$(mktemp -d)
+trap 'rm -rf "$work"' EXIT
+passed=0
+failed=0
+
+# Runs PROGRAM of the folder $1 in $work and stores what it prints, and its exit status, under the name $3.
+run() {
+    (cd "$work" && "$1/$2" < stdin > "$3" 2> "$3.error"; echo "exit status $?" >> "$3")
+}
+
+# compare PROGRAM SEED CALLS [OPTION...]: one stream, both implementations.
+compare() {
+    local program=$1 stream="${*:2}"
+    rm -f "$work"/*
+    "$plain/streams" "$2" "$3" "$work" "${@:4}" || { failed=$((failed + 1)); return; }
+    run "$plain" "$program" expected
+    run "$proved" "$program" found
+    [ "$program" = replay ] && cat "$work/expected" >> "$answers"
+    if cmp -s "$work/expected" "$work/found"; then
+        passed=$((passed + 1))
+    else
+        failed=$((failed + 1))
+        echo "$program differs on the stream of seed $stream:"
+        diff "$work/expected" "$work/found" | head -n 4 | cut -c 1-400
+    fi
+}
+
+# The gate's set: ordinary streams, and those that reach what an ordinary one does not.
+fixed() {
+    local seed
+    for seed in $(seq 1 40); do
+        compare replay "$seed" 2000
+    done
+    for seed in $(seq 41 60); do
+        compare minute "$seed" 2000 --minute
+    done
+    compare replay 61 1000 --million
+    compare minute 62 0 --minute --million
+    compare replay 63 500 --wrong-tables
+    compare minute 64 500 --minute --wrong-tables
+    compare replay 65 0 --full 20
+    compare replay 66 200 --frames 300
+    compare minute 67 0 --minute --frames 65600
+}
+
+answers=$(mktemp)
+trap 'rm -rf "$work" "$answers"' EXIT
+if [ $# -ge 2 ]; then
+    for seed in $(seq "$1" "$2"); do
+        compare replay "$seed" "${3:-5000}"
+    done
+else
+    fixed
+fi
+"$plain/causes" < "$answers"
+echo "$passed passed, $failed failed"
+[ "$failed" -eq 0 ]
