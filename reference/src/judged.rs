@@ -10,9 +10,9 @@ use crate::sorting::Event;
 
 /// "State limits" of document 01.
 pub fn within_limits(p: &Processor) -> bool {
-    let counts = p.counts.boxes.iter().chain(&p.counts.beacons).all(|n| *n <= p.taken);
+    let counts = at_most(p.taken, &p.counts.boxes) & at_most(p.taken, &p.counts.beacons);
     let samples = p.samples.used <= SLOTS && p.samples.used.max(p.samples.replaced) <= p.taken as usize;
-    let totals = p.totals.iter().all(|n| *n <= 65_535 * p.readings);
+    let totals = at_most(65_535u32.wrapping_mul(p.readings), &p.totals);
     let commands = p.accepted <= MOST_COMMANDS && p.waits <= p.accepted && waiting_lawful(p);
     let addresses = p.addresses.next <= p.addresses.reach && p.addresses.reach <= STAGING_BYTES;
     let settings = p.settings.limhi as usize <= SLOTS;
@@ -24,6 +24,11 @@ pub fn within_limits(p: &Processor) -> bool {
         && commands
         && addresses
         && settings
+}
+
+/// Every number is at most the bound; without early exit, so that it is done several at a time.
+fn at_most(bound: u32, numbers: &[u32]) -> bool {
+    numbers.iter().fold(true, |within, n| within & (*n <= bound))
 }
 
 /// Each waiting command is one that a line gives, and at most one is a load.

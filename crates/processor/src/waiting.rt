@@ -23,7 +23,7 @@ pub fn run_settings(s: Settings, w: [Waiting; 32], n: usize) -> Settings
     while i < n {
         let x = w[i];
         let c = x.command;
-        t = command::apply::applied(t, c);
+        t = in_place::applied_in_place(t, c);
         i += 1;
     }
     t

@@ -12,6 +12,7 @@ streams SEED CALLS DIR [options]   a stream of CALLS calls in DIR/stdin, its tab
     --minute         a stream for `minute`; else for `replay`
     --million        before them an interval of 1,000,000 events and events after it
     --full N         before them N intervals with all 704 slots filled
+    --unclosed N     the same without the closes
     --frames N       before them N intervals in which nothing happens
     --wrong-tables   tables.bin is of another length
 streams --example DIR              a minute with protons, helium, oxygen and iron, for `minute` or `replay`";
@@ -40,7 +41,8 @@ fn write_stream(arguments: &[String]) -> Option<()> {
         match option.as_str() {
             "--minute" => {}
             "--million" => stream.million(),
-            "--full" => stream.full_intervals(options.next()?.parse().ok()?),
+            "--full" => stream.full_intervals(options.next()?.parse().ok()?, true),
+            "--unclosed" => stream.full_intervals(options.next()?.parse().ok()?, false),
             "--frames" => stream.empty_intervals(options.next()?.parse().ok()?),
             "--wrong-tables" => {
                 let length = tables.len();

@@ -141,7 +141,8 @@ impl Stream {
     }
 
     /// Intervals with all slots filled, each closed.
-    pub fn full_intervals(&mut self, intervals: usize) {
+    /// `closed`: whether their closes stand in the stream.
+    pub fn full_intervals(&mut self, intervals: usize, closed: bool) {
         self.most = usize::MAX;
         for _ in 0..intervals {
             while self.station.processor.samples.used < SLOTS
@@ -150,7 +151,11 @@ impl Stream {
                 let event = self.any_event();
                 self.event(event);
             }
+            let end = self.bytes.len();
             self.close();
+            if !closed {
+                self.bytes.truncate(end);
+            }
         }
     }
 

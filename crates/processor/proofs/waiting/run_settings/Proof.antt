@@ -26,8 +26,8 @@ mul-x c = search needs
 array-copy-out-x : tie.Need-array-copy-out-x Inv-loop μ-loop
 array-copy-out-x c = search needs
 
-applied-requires : tie.Need-applied-requires Inv-loop μ-loop
-applied-requires c κs = search needs
+applied-in-place-requires : tie.Need-applied-in-place-requires Inv-loop μ-loop
+applied-in-place-requires c κs = search needs
 
 add-i : tie.Need-add-i Inv-loop μ-loop
 add-i c = search needs
@@ -44,7 +44,7 @@ loop-again c =
     let i = l .loop .i in
     let len : length w ≡ 32 = s .good .1 .0 .1 .0 .1 in
     let k : length (take n w) ≡ n = length-take-le n w (omega arith) in
-    let e = c .applied .ensures ∙ sym (ap (λ x. settingsAfter (l .loop .t) (x .command)) (getD-take n w i filler (omega arith))) in (
+    let e = c .applied-in-place .ensures ∙ sym (ap (λ x. settingsAfter (l .loop .t) (x .command)) (getD-take n w i filler (omega arith))) in (
       omega arith,
       ap (λ x. settingsAfterAll x (drop (i + 1) (take n w))) e ∙ settings-step (l .loop .t) (take n w) i (omega arith) ∙ l .loop .inv .1,
     )
@@ -66,7 +66,7 @@ run-settings-spec =
     loop-holds
     mul-x
     array-copy-out-x
-    applied-requires
+    applied-in-place-requires
     add-i
     loop-less
     loop-again

@@ -1,0 +1,75 @@
+#!/usr/bin/env bash
+# Instructions (callgrind) and time of an event and of a close: the proved `minute` beside the second
+# implementation in plain Rust, same streams, same machine.
+#   bench/run.sh
+# Needs valgrind. An event: the stream of 1,000,000 events of one interval, less an empty stream. A close: a stream
+# of closes with 704 filled slots, less the same stream without its closes.
+set -eu
+cd "$(dirname "$0")/.."
+rt check minute > /dev/null
+(cd reference && cargo build --release --offline --quiet)
+plain=$PWD/reference/target/release
+closes=1000
+work=$(mktemp -d)
+trap 'rm -rf "$work"' EXIT
+"$plain/streams" 2 0 "$work/events" --minute --million
+"$plain/streams" 2 0 "$work/closes" --minute --full $closes
+"$plain/streams" 2 0 "$work/unclosed" --minute --unclosed $closes
+mkdir "$work/empty"
+cp "$work/events/tables.bin" "$work/empty"
+: > "$work/empty/stdin"
+events=$(($(stat -c %s "$work/events/stdin") / 8))
+
+# instructions PROGRAM STREAM
+instructions() {
+    (cd "$work/$2" && valgrind --tool=callgrind --callgrind-out-file=/dev/null "$1" < stdin 2>&1 > /dev/null) |
+        sed -n 's/.*Collected : //p'
+}
+
+# nanoseconds PROGRAM STREAM: the least of nine runs
+nanoseconds() {
+    local least=0 run before after
+    for run in 1 2 3 4 5 6 7 8 9; do
+        before=$(date +%s%N)
+        (cd "$work/$2" && "$1" < stdin > /dev/null)
+        after=$(date +%s%N)
+        if [ $least = 0 ] || [ $((after - before)) -lt $least ]; then least=$((after - before)); fi
+    done
+    echo $least
+}
+
+# row NAME PROGRAM: four figures, by the event and by the close
+row() {
+    local figures=() measure
+    for measure in instructions nanoseconds; do
+        local many empty full unclosed
+        many=$($measure "$2" events)
+        empty=$($measure "$2" empty)
+        full=$($measure "$2" closes)
+        unclosed=$($measure "$2" unclosed)
+        figures+=($(((many - empty) / events)) $(((full - unclosed) / closes)))
+    done
+    printf '%-34s %12s %12s %12s %12s\n' "$1" "${figures[0]}" "${figures[2]}" "${figures[1]}" "${figures[3]}"
+    last=("${figures[@]}")
+}
+
+# ratio NAME A.. : the proved figures by those of a row, two decimals
+ratio() {
+    local name=$1 i out=()
+    shift
+    local of=("$@")
+    for i in 0 2 1 3; do
+        out+=("$(awk -v a="${proved[$i]}" -v b="${of[$i]}" 'BEGIN { printf "%.2f", a / b }')")
+    done
+    printf '%-34s %12s %12s %12s %12s\n' "$name" "${out[@]}"
+}
+
+printf '%-34s %12s %12s %12s %12s\n' "" "event instr" "event ns" "close instr" "close ns"
+row "Rust, plain" "$plain/minute"
+one=("${last[@]}")
+row "Rust, state by value and judged" "$plain/minute_judged"
+two=("${last[@]}")
+row "proved" "$PWD/target/bin/minute"
+proved=("${last[@]}")
+ratio "proved / plain" "${one[@]}"
+ratio "proved / by value and judged" "${two[@]}"

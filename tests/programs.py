@@ -1,0 +1,345 @@
+"""Cases for the programs minute and replay. The expected outputs are worked out here from document 01.
+
+    python3 tests/programs.py [FOLDER OF THE PROGRAMS]      target/bin if none is named
+
+Prints each case that fails and what differs. The last line is 'N passed, M failed'.
+"""
+import os
+import subprocess
+import sys
+import tempfile
+
+HERE = os.path.dirname(os.path.abspath(__file__))
+BIN = os.path.abspath(sys.argv[1] if len(sys.argv) > 1 else os.path.join(HERE, "..", "target", "bin"))
+TABLE_BYTES = 62985
+SLOTS = 704
+counts = {"passed": 0, "failed": 0}
+
+
+# ---- inputs
+
+def tables(words=()):
+    """Lookup tables of zeros but for some words, given as (address, value)."""
+    data = bytearray(TABLE_BYTES)
+    for address, value in words:
+        at = 3 * (address - 0x7000)
+        data[at:at + 3] = value.to_bytes(3, "big")
+    return bytes(data)
+
+
+def event(t=0, high=0, low=0, flags=8):
+    return b"\x01" + b"".join(n.to_bytes(2, "big") for n in (t, high, low)) + bytes([flags])
+
+
+def reading(*counts):
+    return b"\x02" + b"".join(n.to_bytes(2, "big") for n in counts)
+
+
+def close(time=60):
+    return b"\x04" + time.to_bytes(4, "big")
+
+
+def filled_line(text):
+    """A line of minute: 80 bytes, zero-filled."""
+    return b"\x03" + text.ljust(80, b"\0")
+
+
+def counted(kind, body):
+    """A record of replay that has its length in front."""
+    return bytes([kind]) + len(body).to_bytes(2, "big") + body
+
+
+def line(text):
+    return counted(3, text)
+
+
+def package(data, error=0):
+    total = (sum(data) + error) % 65536
+    return counted(5, (len(data) + 2).to_bytes(2, "big") + data + total.to_bytes(2, "big"))
+
+
+def packet(body):
+    return counted(6, body)
+
+
+# ---- expected text
+
+def echo(text):
+    return text.ljust(128, b"\0").hex()
+
+
+def accepted(frame, sequence, text):
+    return "line 0 " + echo(b"%02x%02x %s\r\nSIT> " % (frame % 256, sequence, text))
+
+
+def refused(number, text):
+    return f"line {number} " + echo(text + b"?\r\nSIT> ")
+
+
+def closed(frame, taken, filled, boxes=(), beacons=()):
+    """The first three lines of a close; boxes and beacons as (number, count), all others 0."""
+    b, n = [0] * 116, [0] * 12
+    for at, count in boxes:
+        b[at - 1] = count
+    for at, count in beacons:
+        n[at - 1] = count
+    return [f"close 0 {frame} {taken} {filled}",
+            "boxes " + " ".join(map(str, b)), "beacons " + " ".join(map(str, n))]
+
+
+# ---- running
+
+def run(program, stdin, data=tables(), pieces=None):
+    """What the program prints. data: the bytes of tables.bin, or None for no file, or "folder"."""
+    with tempfile.TemporaryDirectory() as room:
+        path = os.path.join(room, "tables.bin")
+        if data == "folder":
+            os.mkdir(path)
+        elif data is not None:
+            with open(path, "wb") as f:
+                f.write(data)
+        if pieces is None:
+            return subprocess.run([BIN + "/" + program], cwd=room, input=stdin, stdout=subprocess.PIPE, check=True).stdout.decode()
+        with subprocess.Popen([BIN + "/" + program], cwd=room, stdin=subprocess.PIPE, stdout=subprocess.PIPE, bufsize=0) as p:
+            at = 0
+            for n in pieces:
+                p.stdin.write(stdin[at:at + n])
+                at += n
+            p.stdin.write(stdin[at:])
+            p.stdin.close()
+            return p.stdout.read().decode()
+
+
+def check(name, got, want):
+    """got: text; want: a list of lines."""
+    text = "".join(x + "\n" for x in want)
+    if got == text:
+        counts["passed"] += 1
+        return
+    counts["failed"] += 1
+    print("FAILED", name)
+    for g, w in zip(got.split("\n"), text.split("\n")):
+        if g != w:
+            print("  got  ", g[:150], "\n  want ", w[:150])
+            return
+    print("  got", len(got), "bytes, want", len(text))
+
+
+def without_packets(output):
+    return "".join(x for x in output.splitlines(keepends=True) if not x.startswith("out "))
+
+
+# ---- tables.bin, ends of the input, bad records
+
+def start_and_end():
+    for program in ("minute", "replay"):
+        for what, data in (("no tables.bin", None), ("an empty one", b""), ("one byte too few", bytes(TABLE_BYTES - 1)),
+                           ("one byte too many", bytes(TABLE_BYTES + 1)), ("far too many", bytes(300000)), ("a folder", "folder")):
+            check(f"{program}: tables.bin: {what}", run(program, event() + b"\xff", data), ["refused 1"])
+        check(f"{program}: no input", run(program, b""), [])
+        first = ["event 0"] if program == "replay" else []
+        check(f"{program}: silent end", run(program, event()), first)
+        for kind in (0, 7, 49, 255) + ((5, 6) if program == "minute" else ()):
+            check(f"{program}: kind {kind}", run(program, event() + bytes([kind]) + bytes(100)), first + ["bad record"])
+        bodies = [(1, 7), (2, 16), (4, 4)] + ([(3, 80)] if program == "minute" else [])
+        for kind, n in bodies:
+            for short in (0, n - 1):
+                check(f"{program}: kind {kind}, {short} bytes", run(program, event() + bytes([kind]) + bytes(short)), first + ["bad record"])
+    for kind in (3, 5, 6):
+        for short in (b"", b"\0", b"\0\5", b"\0\5abcd", b"\xff\xff" + bytes(65534)):
+            check(f"replay: kind {kind}, {len(short)} bytes", run("replay", bytes([kind]) + short), ["bad record"])
+    check("minute: the example", run("minute", bytes.fromhex("01000500640000000400 00003C")), ["0 1 1 0 0 0"])
+    check("minute: the example, other tables", run("minute", bytes.fromhex("01000500640000000400 00003C"), b"\xff" * TABLE_BYTES), ["0 1 1 0 0 0"])
+
+
+# ---- events
+
+def ranges():
+    """Each field at its last value and one above; a flag byte up to 15 and above."""
+    right = [event(511, 4095, 2047, 15), event(flags=0), event(flags=7)]
+    wrong = [event(512), event(65535), event(0, 4096), event(0, 0, 2048), event(flags=16), event(flags=255), event(512, flags=24)]
+    # All three are discarded: the error flag is set, or there is no valid stop.
+    check("minute: ranges", run("minute", b"".join(right + wrong) + close()), ["refused 2"] * len(wrong) + ["0 3 3 0 0 0"])
+    check("replay: ranges", without_packets(run("replay", b"".join(right + wrong) + close())),
+          ["event 0"] * 3 + ["event 2"] * len(wrong) + closed(0, 3, 0, [(5, 3)]))
+
+
+def million():
+    """3 comes after 1,000,000 events, whatever the event; 2 comes before 3."""
+    stream = event(flags=0) * 1000000 + event(flags=0) + event() + event(flags=16) + close() + event(flags=0) + close()
+    check("minute: 1,000,001 events", run("minute", stream), ["refused 3", "refused 3", "refused 2", "0 1000000 1000000 0 0 0", "1 1 1 0 0 0"])
+
+
+# With tables of zeros u is 65,536, f_m is 18, f_e is 88: every event with a valid stop goes to cell 128 * 18 + 88.
+CELL = 0x8000 + 128 * 18 + 88
+# With Klo 65,536 an event of gain 1 has u 0, so f_m 0: cell 88.
+LOW_CELL, KLO = 0x8000 + 88, 0xC201
+# Box 60 with priority 1, box 61 with priority 0.
+SORTED = tables([(CELL, (128 + 60) << 16), (LOW_CELL, 61 << 16), (KLO, 65536)])
+
+
+def record(t, channel, gain, box, priority):
+    return t << 23 | channel << 12 | gain << 9 | box << 1 | priority
+
+
+def samples():
+    """The first 704; then the h-th later one with priority 1 replaces slot h while h < LIMHI."""
+    for limhi in (0, 1, 500, 704):
+        for extra in (0, 1, 2, 400, 1600):
+            stream = line(b"limhi %x" % limhi) + close()
+            slots, h, by_gain = [], 0, [0, 0]
+            for k in range(SLOTS + extra):
+                # Every third event has gain 1 and so priority 0. No two records are alike.
+                t, channel, gain = k % 512, 1 + k // 2, int(k % 3 == 0)
+                stream += event(t, 4095 if gain else channel, channel if gain else 0)
+                w = record(t, channel, gain, 61 if gain else 60, 1 - gain)
+                by_gain[gain] += 1
+                if len(slots) < SLOTS:
+                    slots.append(w)
+                elif not gain and h < limhi:
+                    slots[h] = w
+                    h += 1
+            # The close after these has no event: its slots are empty.
+            output = run("replay", stream + close() + close(), SORTED)
+            outs = [bytes.fromhex(x[4:]) for x in output.splitlines() if x.startswith("out ")]
+            kept = b"".join(p[11:267] for p in outs[14:25])
+            after = b"".join(p[11:267] for p in outs[27:38])
+            check(f"replay: slots, limhi {limhi}, {extra} more",
+                  "".join(f"{int.from_bytes(kept[4 * i:4 * i + 4], 'big'):08x}\n" for i in range(SLOTS)), ["%08x" % w for w in slots])
+            check(f"replay: empty slots after, limhi {limhi}, {extra} more", after.hex() + "\n", ["00" * 2816])
+            high, low = by_gain
+            boxes = [(1, low), (2, high), (3, high), (4, low), (60, high), (61, low)]
+            check(f"replay: counts, limhi {limhi}, {extra} more", without_packets(output),
+                  [accepted(0, 0, b"limhi %x" % limhi)] + closed(0, 0, 0) + ["event 0"] * (SLOTS + extra)
+                  + closed(1, SLOTS + extra, SLOTS, boxes) + closed(2, 0, 0))
+
+
+# ---- readings and commands
+
+def readings():
+    ones, full = reading(*range(1, 9)), reading(*[65535] * 8)
+    check("minute: 61 readings", run("minute", ones * 61 + close() + ones), ["refused 3", "0 0 0 0 0 0"])
+    output = run("replay", full * 61 + close() + ones + close())
+    check("replay: 61 readings", without_packets(output), ["reading 0"] * 60 + ["reading 3"] + closed(0, 0, 0) + ["reading 0"] + closed(1, 0, 0))
+    outs = [bytes.fromhex(x[4:]) for x in output.splitlines() if x.startswith("out ")]
+    # 60 * 65,535 is 3,932,100: s is 10, the quotient 3,839, the code AEFF.
+    check("replay: totals", outs[0][11:27].hex() + "\n" + outs[13][11:27].hex() + "\n", ["aeff" * 8, "".join("%04x" % n for n in range(1, 9))])
+
+
+def commands():
+    """32 in a frame, also those carried out at once; an empty line is none; 5 comes before 7."""
+    lines = [b"junk 1", b"load 0", b"loadat 0"] + [b"hvstep %x" % n for n in range(30)]
+    stream = b"".join(map(line, lines)) + line(b"") + line(b"junk 2") + close() + line(b"hv 1")
+    want = [accepted(0, k, x) for k, x in enumerate(lines[:32])] + [refused(7, lines[32])]
+    want += ["line 0 " + echo(b"SIT> "), refused(5, b"junk 2")] + closed(0, 0, 0) + [accepted(1, 0, b"hv 1")]
+    check("replay: 33 commands", without_packets(run("replay", stream)), want)
+    stream = b"".join(map(filled_line, lines)) + filled_line(b"") + filled_line(b"junk 2") + close() + filled_line(b"hv 1")
+    check("minute: 33 commands", run("minute", stream), ["refused 7", "refused 5", "0 0 0 0 0 0"])
+
+
+def zero_bytes():
+    """minute's line ends before its first zero byte; to replay a zero byte is a byte as any other."""
+    e = event(flags=0)
+    # Eonly 1 from the close on, and not Eonly 0, which stands behind a zero byte.
+    stream = filled_line(b"eonly 1\0eonly 0") + e + close() + e + close()
+    check("minute: bytes behind a zero", run("minute", stream), ["0 1 1 0 0 0", "1 1 0 0 1 0"])
+    check("minute: a zero first", run("minute", filled_line(b"\0junk 1") + close()), ["0 0 0 0 0 0"])
+    check("minute: 80 bytes", run("minute", filled_line(b"x" * 80) + filled_line(b"junk\t1") + filled_line(b"junk 1 ")), ["refused 5", "refused 4", "refused 5"])
+    stream = line(b"junk 1") + line(b"junk 1\0") + line(b"\0") + line(b"x" * 80) + line(b"x" * 81) + line(b"~\x7f")
+    first, last = echo(b"0000 junk 1\r\nSIT> "), echo(b"x" * 80 + b"?\r\nSIT> ")
+    check("replay: lines with other bytes", run("replay", stream),
+          ["line 0 " + first, "line 4 " + first, "line 4 " + first, "line 5 " + last, "line 4 " + last, "line 4 " + last])
+
+
+def long_bodies():
+    zeros = echo(b"")
+    most = bytes(range(256)) * 246 + bytes(9)
+    text = b"binary A:%08x N:%08x OK\r\nSIT> "
+    check("replay: bodies of 65,535 bytes", run("replay", line(b" " * 65535) + counted(5, b"\xff\xfd" + bytes(65533)) + packet(bytes(65535)) + event()),
+          ["line 4 " + zeros, "package 9 " + zeros, "packet 11", "event 0"])
+    check("replay: staging filled", run("replay", package(most) + package(b"") + package(b"a")),
+          ["package 0 " + echo(text % (0, TABLE_BYTES)), "package 0 " + echo(text % (TABLE_BYTES, 0)), "package 9 " + echo(text % (TABLE_BYTES, 0))])
+
+
+# ---- loads
+
+def loads():
+    """A load runs at close, behind the packets, and blocks other loads until then."""
+    cell = bytes([128 + 60, 3, 0])
+    load = b"load %x 0" % CELL
+    stream = event() + package(cell) + line(load) + event() + package(b"a") + line(b"load 0") + close() + event() + line(load) + close()
+    ok = echo(b"binary A:00000000 N:00000003 OK\r\nSIT> ")
+    loaded = accepted(0, 0, load)
+    output = run("replay", stream)
+    check("replay: a load at close", without_packets(output),
+          ["event 0", "package 0 " + ok, loaded, "event 0", "package 6 " + loaded[7:], refused(6, b"load 0")]
+          + closed(0, 2, 0, [(1, 2), (3, 2), (7, 2)]) + ["event 0", refused(5, load)]
+          + closed(1, 1, 1, [(2, 1), (3, 1), (60, 1)], [(3, 1)]))
+    outs = [bytes.fromhex(x[4:]) for x in output.splitlines() if x.startswith("out ")]
+    check("replay: table sums before and after", outs[0][264:267].hex() + "\n" + outs[13][264:267].hex() + "\n", ["000000", cell.hex()])
+    bad = echo(b"binary A:00000000 N:00000003 ckserr 000000c0 000000bf\r\nSIT> ")
+    check("replay: a package whose sum is wrong is placed", without_packets(run("replay", package(cell, 1) + line(load) + close() + event() + close())),
+          ["package 10 " + bad, loaded] + closed(0, 0, 0) + ["event 0"] + closed(1, 1, 1, [(2, 1), (3, 1), (60, 1)], [(3, 1)]))
+    check("minute: nothing is staged", run("minute", filled_line(load) + filled_line(b"load 0") + filled_line(b"loadat 0") + filled_line(b"loadat 1")), ["refused 5"] * 2)
+
+
+# ---- packets
+
+def packets():
+    """The packets of a close, read back."""
+    stream = line(b"limhi 2c0") + line(b"hvstep a5") + line(b"toferror 1") + close(7) + event() + reading(*range(8)) + close(0x01020304)
+    outs = [bytes.fromhex(x[4:]) for x in run("replay", stream, SORTED).splitlines() if x.startswith("out ")][13:]
+    want = ["packet 0", "rate 1 16909060 1", "rates 0 1 2 3 4 5 6 7 0 1 1" + " 0" * 56 + " 1" + " 0" * 56,
+            "settings 165 0 0 1 0 704 %d" % (((128 + 60 + 61) << 16) + 65536 & 0xFFFFFF)]
+    slot = "%08x" % record(0, 0, 0, 60, 1)
+    for p in range(11):
+        want += ["packet 0", f"sample 1 16909060 1 {p}", "records " + (slot if p == 0 else "00000000") + "00" * 252]
+    want += ["packet 0", "beacon 1 16909060 1", "rates" + " 0" * 12]
+    check("replay: packets read back", run("replay", b"".join(map(packet, outs))), want)
+    rate = bytearray(outs[0])
+    rate[271] ^= 1
+    check("replay: a wrong sum, no header, a fault", run("replay", packet(bytes(rate)) + packet(outs[0][:-1]) + packet(b"") + packet(fault(outs[0]))),
+          ["packet 12", "packet 11", "packet 11", "packet 13"])
+
+
+def fault(rate):
+    """Byte 259 of a rate packet has no use; the sum is made right again."""
+    b = bytearray(rate)
+    b[259] += 1
+    b[271] = sum(b[:271]) % 256
+    return bytes(b)
+
+
+# ---- the example that README shows
+
+def example():
+    """README's first command runs minute in example/; README shows what it prints."""
+    with open(os.path.join(HERE, "..", "example", "tables.bin"), "rb") as f:
+        data = f.read()
+    with open(os.path.join(HERE, "..", "example", "stdin"), "rb") as f:
+        stream = f.read()
+    with open(os.path.join(HERE, "..", "README.md"), encoding="utf-8") as f:
+        shown = f.read().split("prints\n\n    ")[1].split("\n")[0]
+    check("minute: README's example", run("minute", stream, data), [shown])
+
+
+# ---- many closes, and input in pieces
+
+def frames():
+    check("minute: 65,537 closes", run("minute", close() * 65537), [f"{k % 65536} 0 0 0 0 0" for k in range(65537)])
+
+
+def pieces():
+    """The input may come in pieces of any size."""
+    stream = b"".join(event(k % 512) + line(b"junk %x" % (k % 2)) + package(bytes(k)) + reading(*[k] * 8) for k in range(700))
+    whole = run("replay", stream)
+    for n in (1, 3, 131071):
+        sizes = [n] * min(3000, len(stream) // n)
+        check(f"replay: pieces of {n}", run("replay", stream, pieces=sizes), whole.splitlines())
+    check("replay: a cut stream", run("replay", stream[:-1], pieces=[4096] * 10), whole.splitlines()[:-1] + ["bad record"])
+
+
+for case in (start_and_end, ranges, million, samples, readings, commands, zero_bytes, long_bodies, loads, packets, example, frames, pieces):
+    case()
+print(f"{counts['passed']} passed, {counts['failed']} failed")
+sys.exit(counts["failed"] != 0)
