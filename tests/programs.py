@@ -100,14 +100,17 @@ def run(program, stdin, data=tables(), pieces=None):
                 f.write(data)
         if pieces is None:
             return subprocess.run([BIN + "/" + program], cwd=room, input=stdin, stdout=subprocess.PIPE, check=True).stdout.decode()
-        with subprocess.Popen([BIN + "/" + program], cwd=room, stdin=subprocess.PIPE, stdout=subprocess.PIPE, bufsize=0) as p:
-            at = 0
-            for n in pieces:
-                p.stdin.write(stdin[at:at + n])
-                at += n
-            p.stdin.write(stdin[at:])
-            p.stdin.close()
-            return p.stdout.read().decode()
+        # What it prints goes to a file: a full pipe would stop it while it is still being fed.
+        with open(os.path.join(room, "printed"), "w+b") as printed:
+            with subprocess.Popen([BIN + "/" + program], cwd=room, stdin=subprocess.PIPE, stdout=printed, bufsize=0) as p:
+                at = 0
+                for n in pieces:
+                    p.stdin.write(stdin[at:at + n])
+                    at += n
+                p.stdin.write(stdin[at:])
+                p.stdin.close()
+            printed.seek(0)
+            return printed.read().decode()
 
 
 def check(name, got, want):
