@@ -87,7 +87,7 @@ boxes-differ (InCell gain cell) h = cells gain (cell .priority) (cell .ratebox) 
     cells false true b k = (omega arith, (rw (ne-eqb 3 b (λ e. omega arith)), (omega arith, (rw (ne-eqb 2 b (λ e. omega arith)), (omega arith, (refl, tt))))))
     cells false false b k = (omega arith, (rw (ne-eqb 3 b (λ e. omega arith)), (omega arith, (rw (ne-eqb 1 b (λ e. omega arith)), (omega arith, (refl, tt))))))
 
-beacons-differ : (o : Outcome) → Differ (beaconsOf o)
+pub beacons-differ : (o : Outcome) → Differ (beaconsOf o)
 beacons-differ Discarded = tt
 beacons-differ (OutOfBounds gain) = tt
 beacons-differ (InCell gain cell) = go (leb 1 (cell .beacon)) refl

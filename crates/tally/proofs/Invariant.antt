@@ -52,7 +52,7 @@ all-append p (x ∷ xs) m h k = go (p x) (all p xs) h (all-append p xs m)
     go true b q ih = ih q k
     go false b q ih = q
 
-table-most : (n m : ℕ) (f : ℕ → ℕ) → ((i : ℕ) → f i ≤ m) → all (atMost m) (table n f) ≡ true
+pub table-most : (n m : ℕ) (f : ℕ → ℕ) → ((i : ℕ) → f i ≤ m) → all (atMost m) (table n f) ≡ true
 unfolding table
 table-most zero m f h = refl
 table-most (suc n) m f h = all-append (atMost m) (table n f) (f n ∷ []) (table-most n m f h) (rw (le-leb (f n) m (h n)))

@@ -96,7 +96,7 @@ other-reach (Hv b) r q h = refl
 other-reach (Hvstep n) r q h = refl
 other-reach (Load a y) r q h = absurd (false≢true (sym h))
 
-no-loads : (ws : List Waiting) (r q : ℕ) → loadsIn ws ≡ 0 → all (givenAt r) ws ≡ all (givenAt q) ws
+pub no-loads : (ws : List Waiting) (r q : ℕ) → loadsIn ws ≡ 0 → all (givenAt r) ws ≡ all (givenAt q) ws
 unfolding loadsIn keep
 no-loads [] r q h = refl
 no-loads (w ∷ ws) r q h = go (isLoad (w .command)) refl h (no-loads ws r q)
@@ -109,12 +109,12 @@ no-loads (w ∷ ws) r q h = go (isLoad (w .command)) refl h (no-loads ws r q)
 no-load-waits : (t : Tally) → loadWaitsFor t ≡ false → loadsIn (t .waiting) ≡ 0
 no-load-waits t h = omega (arith, leb-false 1 (loadsIn (t .waiting)) h)
 
-loads-snoc : (ws : List Waiting) (w : Waiting) → loadsIn (ws ++ w ∷ []) ≡ loadsIn ws + length (joinIf (isLoad (w .command)) w [])
+pub loads-snoc : (ws : List Waiting) (w : Waiting) → loadsIn (ws ++ w ∷ []) ≡ loadsIn ws + length (joinIf (isLoad (w .command)) w [])
 unfolding loadsIn
 loads-snoc ws w = rw (keep-append, keep-one, length-append)
 
 -- a load that is accepted finds no other waiting
-loads-one : (n : ℕ) (b full : Bool) (w : Waiting) → n ≤ 1 → refusalOf (b && leb 1 n) full ≡ 0 → n + length (joinIf b w []) ≤ 1
+pub loads-one : (n : ℕ) (b full : Bool) (w : Waiting) → n ≤ 1 → refusalOf (b && leb 1 n) full ≡ 0 → n + length (joinIf b w []) ≤ 1
 loads-one n true full w h k = go (leb 1 n) refl k
   where
     go : (x : Bool) → leb 1 n ≡ x → refusalOf x full ≡ 0 → n + 1 ≤ 1
@@ -140,7 +140,7 @@ waits-inv t c v ok h =
       limhi-most = v .limhi-most;
     }
 
-refusal-free : (blocked full : Bool) → refusalOf blocked full ≡ 0 → blocked ≡ false
+pub refusal-free : (blocked full : Bool) → refusalOf blocked full ≡ 0 → blocked ≡ false
 refusal-free true full h = absurd (omega arith)
 refusal-free false full h = refl
 
@@ -200,21 +200,21 @@ placed-inv t bytes staging echo v h =
 
 -- ---- a close
 
-settings-all : (s : Settings) (reach : ℕ) (ws : List Waiting) → settingsWithin s ≡ true → all (givenAt reach) ws ≡ true → settingsWithin (settingsAfterAll s ws) ≡ true
+pub settings-all : (s : Settings) (reach : ℕ) (ws : List Waiting) → settingsWithin s ≡ true → all (givenAt reach) ws ≡ true → settingsWithin (settingsAfterAll s ws) ≡ true
 unfolding settingsAfterAll
 settings-all s reach [] h k = h
 settings-all s reach (w ∷ ws) h k =
     let p = and-split (givenAt reach w) (all (givenAt reach) ws) k in
     settings-all _ reach ws (settings-kept s (w .command) reach h (p .0)) (p .1)
 
-address-le : (a b c : ℕ) (ws : List Waiting) → a ≤ b → addressAfterAll a ws ≤ addressAfterAll b ws
+pub address-le : (a b c : ℕ) (ws : List Waiting) → a ≤ b → addressAfterAll a ws ≤ addressAfterAll b ws
 address-le a b c ws h = go (leb 1 (loadsIn ws))
   where
     go : (x : Bool) → cond x 0 a ≤ cond x 0 b
     go true = omega arith
     go false = h
 
-address-most : (a m : ℕ) (ws : List Waiting) → a ≤ m → addressAfterAll a ws ≤ m
+pub address-most : (a m : ℕ) (ws : List Waiting) → a ≤ m → addressAfterAll a ws ≤ m
 address-most a m ws h = go (leb 1 (loadsIn ws))
   where
     go : (x : Bool) → cond x 0 a ≤ m

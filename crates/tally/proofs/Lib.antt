@@ -8,4 +8,6 @@ pub mod Balance
 pub mod Places
 pub mod Theorem
 pub mod Starred
+pub mod CallLaws
+pub mod LimitsKept
 pub mod Corollaries

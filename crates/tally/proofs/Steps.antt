@@ -89,7 +89,7 @@ RefusedRecord n s = record { number = n; state = s; taken = 0; counts = noCounts
 
 -- ---- buffers that a refused call leaves
 
-kept-same : (l : Lent) (mine : List ℕ) → kept l mine (found l mine) ≡ mine
+pub kept-same : (l : Lent) (mine : List ℕ) → kept l mine (found l mine) ≡ mine
 kept-same own mine = refl
 kept-same (other x) mine = refl
 
