@@ -2,19 +2,22 @@
 # Instructions (callgrind) and time of an event and of a close: the proved `minute` beside the second
 # implementation in plain Rust, same streams, same machine.
 #   bench/run.sh
-# Needs valgrind. An event: the stream of 1,000,000 events of one interval, less an empty stream. A close: a stream
-# of closes with 704 filled slots, less the same stream without its closes.
+# Needs valgrind. An event: the stream of 1,000,000 events of one interval, less an empty stream. A close: instructions
+# of a stream of closes with 704 filled slots, less the same stream without its closes; time of a stream of closes alone,
+# less an empty stream, since the difference of two long runs is lost in the time of the events.
 set -eu
 cd "$(dirname "$0")/.."
 rt check minute > /dev/null
 (cd reference && cargo build --release --offline --quiet)
 plain=$PWD/reference/target/release
-closes=1000
+closes=500
+frames=5000
 work=$(mktemp -d)
 trap 'rm -rf "$work"' EXIT
 "$plain/streams" 2 0 "$work/events" --minute --million
 "$plain/streams" 2 0 "$work/closes" --minute --full $closes
 "$plain/streams" 2 0 "$work/unclosed" --minute --unclosed $closes
+"$plain/streams" 2 0 "$work/frames" --minute --frames $frames
 mkdir "$work/empty"
 cp "$work/events/tables.bin" "$work/empty"
 : > "$work/empty/stdin"
@@ -40,15 +43,13 @@ nanoseconds() {
 
 # row NAME PROGRAM: four figures, by the event and by the close
 row() {
-    local figures=() measure
-    for measure in instructions nanoseconds; do
-        local many empty full unclosed
-        many=$($measure "$2" events)
-        empty=$($measure "$2" empty)
-        full=$($measure "$2" closes)
-        unclosed=$($measure "$2" unclosed)
-        figures+=($(((many - empty) / events)) $(((full - unclosed) / closes)))
-    done
+    local figures=() empty ready
+    empty=$(instructions "$2" empty)
+    ready=$(nanoseconds "$2" empty)
+    figures+=($((($(instructions "$2" events) - empty) / events)))
+    figures+=($((($(instructions "$2" closes) - $(instructions "$2" unclosed)) / closes)))
+    figures+=($((($(nanoseconds "$2" events) - ready) / events)))
+    figures+=($((($(nanoseconds "$2" frames) - ready) / frames)))
     printf '%-34s %12s %12s %12s %12s\n' "$1" "${figures[0]}" "${figures[2]}" "${figures[1]}" "${figures[3]}"
     last=("${figures[@]}")
 }
