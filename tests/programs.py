@@ -1,4 +1,6 @@
-"""Cases for the programs minute and replay. The expected outputs are worked out here from document 01.
+"""Cases for the programs minute and replay. The expected outputs are worked out here from document 01,
+but for two: `example` holds the program to what README shows, which the second implementation printed, and `pieces`
+holds its output on input in pieces to its own output on the same input at once.
 
     python3 tests/programs.py [FOLDER OF THE PROGRAMS]      target/bin if none is named
 
