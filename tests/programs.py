@@ -1,6 +1,5 @@
 """Cases for the programs minute and replay. The expected outputs are worked out here from document 01,
-but for two: `example` holds the program to what README shows, which the second implementation printed, and `pieces`
-holds its output on input in pieces to its own output on the same input at once.
+but for one: `example` holds the program to what README shows, which the second implementation printed.
 
     python3 tests/programs.py [FOLDER OF THE PROGRAMS]      target/bin if none is named
 
@@ -72,6 +71,10 @@ def echo(text):
 
 def accepted(frame, sequence, text):
     return "line 0 " + echo(b"%02x%02x %s\r\nSIT> " % (frame % 256, sequence, text))
+
+
+# The address of a package and how many bytes it holds.
+PACKAGE_ECHO = b"binary A:%08x N:%08x OK\r\nSIT> "
 
 
 def refused(number, text):
@@ -259,11 +262,10 @@ def zero_bytes():
 def long_bodies():
     zeros = echo(b"")
     most = bytes(range(256)) * 246 + bytes(9)
-    text = b"binary A:%08x N:%08x OK\r\nSIT> "
     check("replay: bodies of 65,535 bytes", run("replay", line(b" " * 65535) + counted(5, b"\xff\xfd" + bytes(65533)) + packet(bytes(65535)) + event()),
           ["line 4 " + zeros, "package 9 " + zeros, "packet 11", "event 0"])
     check("replay: staging filled", run("replay", package(most) + package(b"") + package(b"a")),
-          ["package 0 " + echo(text % (0, TABLE_BYTES)), "package 0 " + echo(text % (TABLE_BYTES, 0)), "package 9 " + echo(text % (TABLE_BYTES, 0))])
+          ["package 0 " + echo(PACKAGE_ECHO % (0, TABLE_BYTES)), "package 0 " + echo(PACKAGE_ECHO % (TABLE_BYTES, 0)), "package 9 " + echo(PACKAGE_ECHO % (TABLE_BYTES, 0))])
 
 
 # ---- loads
@@ -273,7 +275,7 @@ def loads():
     cell = bytes([128 + 60, 3, 0])
     load = b"load %x 0" % CELL
     stream = event() + package(cell) + line(load) + event() + package(b"a") + line(b"load 0") + close() + event() + line(load) + close()
-    ok = echo(b"binary A:00000000 N:00000003 OK\r\nSIT> ")
+    ok = echo(PACKAGE_ECHO % (0, 3))
     loaded = accepted(0, 0, load)
     output = run("replay", stream)
     check("replay: a load at close", without_packets(output),
@@ -335,13 +337,21 @@ def frames():
 
 
 def pieces():
-    """The input may come in pieces of any size."""
-    stream = b"".join(event(k % 512) + line(b"junk %x" % (k % 2)) + package(bytes(k)) + reading(*[k] * 8) for k in range(700))
-    whole = run("replay", stream)
+    """The input may come in pieces of any size. 32 commands, 60 readings and 62,985 bytes of packages are taken."""
+    stream, want, staged = b"", [], 0
+    for k in range(700):
+        text = b"junk %x" % (k % 2)
+        stream += event(k % 512) + line(text) + package(bytes(k)) + reading(*[k] * 8)
+        answer = accepted(0, k, text) if k < 32 else refused(7, text)
+        fits = staged + k <= TABLE_BYTES
+        # A package that does not fit leaves the line's echo.
+        placed = "package 0 " + echo(PACKAGE_ECHO % (staged, k)) if fits else "package 9 " + answer[7:]
+        staged += k if fits else 0
+        want += ["event 0", answer, placed, "reading 0" if k < 60 else "reading 3"]
     for n in (1, 3, 131071):
         sizes = [n] * min(3000, len(stream) // n)
-        check(f"replay: pieces of {n}", run("replay", stream, pieces=sizes), whole.splitlines())
-    check("replay: a cut stream", run("replay", stream[:-1], pieces=[4096] * 10), whole.splitlines()[:-1] + ["bad record"])
+        check(f"replay: pieces of {n}", run("replay", stream, pieces=sizes), want)
+    check("replay: a cut stream", run("replay", stream[:-1], pieces=[4096] * 10), want[:-1] + ["bad record"])
 
 
 for case in (start_and_end, ranges, million, samples, readings, commands, zero_bytes, long_bodies, loads, packets, example, frames, pieces):
