@@ -1,8 +1,8 @@
 #!/usr/bin/env bash
-# Instructions (callgrind) and time of an event and of a close: the proved `minute` beside the second
-# implementation in plain Rust, same streams, same machine.
+# Instructions (callgrind) and time of an event and of a close, and the memory of a run: the proved `minute` beside the
+# second implementation in plain Rust, same streams, same machine.
 #   bench/run.sh
-# Needs valgrind. An event: the stream of 1,000,000 events of one interval, less an empty stream. A close: instructions
+# Needs Debian's packages valgrind and time. An event: the stream of 1,000,000 events of one interval, less an empty stream. A close: instructions
 # of a stream of closes with 704 filled slots, less the same stream without its closes; time of a stream of closes alone,
 # less an empty stream, since the difference of two long runs is lost in the time of the events.
 set -eu
@@ -41,6 +41,11 @@ nanoseconds() {
     echo $least
 }
 
+# kilobytes PROGRAM STREAM: the most memory that a run holds
+kilobytes() {
+    (cd "$work/$2" && command time -f %M "$1" < stdin 2>&1 > /dev/null)
+}
+
 # row NAME PROGRAM: four figures, by the event and by the close
 row() {
     local figures=() empty ready
@@ -52,6 +57,11 @@ row() {
     figures+=($((($(nanoseconds "$2" frames) - ready) / frames)))
     printf '%-34s %12s %12s %12s %12s\n' "$1" "${figures[0]}" "${figures[2]}" "${figures[1]}" "${figures[3]}"
     last=("${figures[@]}")
+}
+
+# memory NAME PROGRAM: on no input, the events and the closes
+memory() {
+    printf '%-34s %12s %12s %12s\n' "$1" "$(kilobytes "$2" empty)" "$(kilobytes "$2" events)" "$(kilobytes "$2" closes)"
 }
 
 # ratio NAME A.. : the proved figures by those of a row, two decimals
@@ -74,3 +84,7 @@ row "proved" "$PWD/target/bin/minute"
 proved=("${last[@]}")
 ratio "proved / plain" "${one[@]}"
 ratio "proved / by value and judged" "${two[@]}"
+
+printf '\n%-34s %12s %12s %12s\n' "memory, kB" "no input" "events" "closes"
+memory "Rust, plain" "$plain/minute"
+memory "proved" "$PWD/target/bin/minute"

@@ -1,24 +1,18 @@
 -- Laws of digits and arguments. Assumes nothing.
-use mathlib.Core.Path.{_≡_, refl, ap}
-use mathlib.Core.Bool.{Bool, true, false, _&&_, _||_}
-use mathlib.Core.List.{List, [], _∷_}
+use mathlib.Core.Path.{_≡_, ap}
+use mathlib.Core.Bool.{true, _&&_}
+use mathlib.Core.List.{List}
 use mathlib.Core.Logic.{_⊎_, inl, inr, ⊎-elim}
-use Prim.Native.Nat.{ℕ, zero, suc, _+_, _*_, _^_, _≤_, _<_}
+use Prim.Native.Nat.{ℕ, _+_, _*_, _^_, _≤_, _<_}
 use native.Mathlib.Omega.{arith}
-use native.Mathlib.Nat.{not-suc-le-zero, pow-suc, pow-le-pow-right}
+use native.Mathlib.Nat.{pow-suc, pow-le-pow-right}
 use native.Mathlib.Numerals.{add-one}
 use lib.ListN.{length, drop, getD, drop-of-length-le}
 use lib.Seq.{drop-cons}
 use lib.Dec.{leb, lit<}
 use borrow.Author.Tests.{leb-true}
-use Rattle.wire.specs.Lists.{all}
-use Rattle.wire.proofs.Lists.{and-split, and-left, and-right}
+use Rattle.wire.proofs.Lists.{and-split, or-split}
 use Rattle.command.specs.Grammar.{isDigit, digitValue, hexBehind}
-
--- a test that two tests make
-pub or-split : (p q : Bool) → (p || q) ≡ true → (p ≡ true) ⊎ (q ≡ true)
-or-split true q h = inl refl
-or-split false q h = inr h
 
 -- a number in a range that is tested
 pub range : (lo hi b : ℕ) → (leb lo b && leb b hi) ≡ true → (lo ≤ b) × (b ≤ hi)
@@ -36,12 +30,6 @@ digit-low b h = ⊎-elim (λ p. p .0) (λ p. omega arith) (digit-range b h)
 
 pub digit-high : (b : ℕ) → isDigit b ≡ true → 57 < b → (97 ≤ b) × (b ≤ 102)
 digit-high b h g = ⊎-elim (λ p. omega arith) (λ p. p) (digit-range b h)
-
--- where each passes, so does the one at i
-pub all-get : (p : ℕ → Bool) (xs : List ℕ) (i : ℕ) → all p xs ≡ true → i < length xs → p (getD xs i 0) ≡ true
-all-get p [] i h q = absurd (not-suc-le-zero q)
-all-get p (x ∷ xs) zero h q = and-left (p x) (all p xs) h
-all-get p (x ∷ xs) (suc i) h q = all-get p xs i (and-right (p x) (all p xs) h) (omega arith)
 
 -- one digit more
 pub hex-step : (n : ℕ) (w : List ℕ) (i : ℕ) → i < length w

@@ -6,7 +6,8 @@ use native.Mathlib.Omega.{arith}
 use lib.ListN.{length, length-append, length-replicate}
 use Rattle.wire.specs.Bytes.{put, zeros}
 use Rattle.wire.proofs.Bytes.{then, put-all}
-use Rattle.load.proofs.ListLaws.{padded-is, length-padded}
+use Rattle.wire.specs.Pieces.{padded}
+use Rattle.wire.proofs.Pieces.{padded-is, length-padded}
 use Rattle.command.specs.Text.{text}
 use Rattle.command.specs.Echo.{hex2, ending, echoBytes, echoed, acceptedEcho, refusedEcho, promptEcho, packageOkEcho, packageErrorEcho}
 
@@ -48,13 +49,13 @@ unfolding refusedEcho
 length-refused line h = length-padded echoBytes (line ++ text "?" ++ ending) (simp length-append (omega arith))
 
 pub length-prompt : length promptEcho ≡ echoBytes
-unfolding promptEcho
+unfolding promptEcho padded
 length-prompt = refl
 
 pub length-package-ok : (address placed : ℕ) → length (packageOkEcho address placed) ≡ echoBytes
-unfolding packageOkEcho
+unfolding packageOkEcho padded
 length-package-ok address placed = refl
 
 pub length-package-error : (address placed received computed : ℕ) → length (packageErrorEcho address placed received computed) ≡ echoBytes
-unfolding packageErrorEcho
+unfolding packageErrorEcho padded
 length-package-error address placed received computed = refl

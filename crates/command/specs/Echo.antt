@@ -4,7 +4,7 @@ use Prim.Native.Char.{code}
 use mathlib.Core.Bool.{cond}
 use mathlib.Core.List.{List, [], _∷_, _++_}
 use lib.Dec.{leb}
-use Rattle.load.specs.Load.{padded}
+use Rattle.wire.specs.Pieces.{padded}
 use Rattle.command.specs.Text.{text}
 
 -- a digit 0-9 a-f

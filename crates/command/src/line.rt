@@ -29,12 +29,14 @@ fn all_printable(line: &[u8]) -> bool
     true
 }
 
-// Whether the line has no more bytes than it may, and no others than it may.
+// Whether the line has no more bytes than it may, and no others than it may. No byte of a longer line is read.
 pub fn bytes_ok(line: &[u8]) -> bool
     ensures { λ r. ⌜ r ≡ bytesOk (now (line .entry)) ⌝ }
 {
-    let printable = all_printable(line);
-    (line.len() <= MAX_LINE) & printable
+    if MAX_LINE < line.len() {
+        return false;
+    }
+    all_printable(line)
 }
 
 // What the line is, at this reach.

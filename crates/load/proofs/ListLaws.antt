@@ -1,27 +1,18 @@
 -- Laws of lists and of tests. Assumes nothing.
 use mathlib.Core.Path.{_≡_, refl, ap, _∙_}
 use mathlib.Core.Bool.{Bool, true, false}
-use mathlib.Core.List.{List, _++_}
+use mathlib.Core.List.{List}
 use mathlib.Core.Logic.{_⊎_, inl, inr, ⊎-elim}
 use Prim.Native.Nat.{ℕ, _+_, _-_, _≤_, _<_, min}
 use native.Mathlib.Omega.{arith}
 use lib.Dec.{leb}
-use lib.ListN.{length, take, drop, length-append, length-take, length-replicate}
+use lib.ListN.{length, take, drop, length-take}
 use lib.Seq.{length-take-le, take-add, take-take, take-all, drop-at}
 use borrow.Author.Tests.{leb-true, leb-false}
-use Rattle.wire.specs.Bytes.{zeros}
-use Rattle.load.specs.Load.{padded}
 
 pub either : (t : Bool) → (t ≡ true) ⊎ (t ≡ false)
 either true = inl refl
 either false = inr refl
-
--- zeros to the end make a list padded
-pub padded-is : (total n : ℕ) (p : List ℕ) → length p ≡ n → padded total p ≡ p ++ zeros (total - n)
-padded-is total n p e = ap (λ (k : ℕ). p ++ zeros (total - k)) e
-
-pub length-padded : (n : ℕ) (p : List ℕ) → length p ≤ n → length (padded n p) ≡ n
-length-padded n p h = length-append p (zeros (n - length p)) ∙ omega (arith, length-replicate {A = ℕ} (n - length p) 0)
 
 drop-take : (f n : ℕ) (s : List ℕ) → f ≤ length s → drop f (take (f + n) s) ≡ take n (drop f s)
 drop-take f n s h = ap (drop f) (take-add f n s) ∙ drop-at (take f s) (take n (drop f s)) f (length-take-le f s h)

@@ -9,12 +9,13 @@ use lib.ListN.{length, take, drop, length-append, length-take, length-replicate}
 use lib.Seq.{length-take-le}
 use borrow.Author.Tests.{leb-true}
 use Rattle.wire.specs.Bytes.{zeros}
+use Rattle.wire.specs.Pieces.{padded}
 use Rattle.wire.proofs.Bytes.{length-put}
 use Rattle.wire.proofs.Lists.{and-left, and-right}
+use Rattle.wire.proofs.Pieces.{length-padded}
 use Rattle.tables.specs.Tables.{first, end, tableBytes, byteOf}
 use Rattle.load.specs.Staging.{stagingBytes}
-use Rattle.load.specs.Load.{padded, wordWidth, loadWords, loadLawful, packedWord, packedWords, packed, loaded}
-use Rattle.load.proofs.ListLaws.{length-padded}
+use Rattle.load.specs.Load.{wordWidth, loadWords, loadLawful, packedWord, packedWords, packed, loaded}
 
 -- ---- how many words
 
@@ -103,15 +104,15 @@ module _ (w : ℕ) (bytes : List ℕ) (small : w ≤ 3) where
 
 -- three bytes by each way to pack
 packed-three : packed 0 (1 ∷ 2 ∷ 3 ∷ []) ≡ 1 ∷ 2 ∷ 3 ∷ []
-unfolding packedWords
+unfolding packedWords padded
 packed-three = refl
 
 packed-one : packed 1 (1 ∷ 2 ∷ 3 ∷ []) ≡ 0 ∷ 0 ∷ 1 ∷ 0 ∷ 0 ∷ 2 ∷ 0 ∷ 0 ∷ 3 ∷ []
-unfolding packedWords
+unfolding packedWords padded
 packed-one = refl
 
 packed-two : packed 2 (1 ∷ 2 ∷ 3 ∷ []) ≡ 0 ∷ 1 ∷ 2 ∷ 0 ∷ 3 ∷ 0 ∷ []
-unfolding packedWords
+unfolding packedWords padded
 packed-two = refl
 
 -- the words written are as many as the range test judged

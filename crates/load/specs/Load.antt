@@ -5,11 +5,8 @@ use mathlib.Core.List.{List, [], _++_}
 use lib.Dec.{leb}
 use lib.ListN.{length, take, drop}
 use Rattle.wire.specs.Bytes.{zeros, put}
+use Rattle.wire.specs.Pieces.{padded}
 use Rattle.tables.specs.Tables.{first, end, byteOf}
-
--- the list with zeros behind, n in all
-abbrev pub padded : ℕ → List ℕ → List ℕ
-padded n xs = xs ++ zeros (n - length xs)
 
 -- how many bytes go into a word: "y 0 three bytes a word, y 1 one (two zeros before), y 2 two (a zero before)". No load has
 -- a y above 2

@@ -1,9 +1,9 @@
 // Load packages: their judgement, and placing their bytes into lent staging.
 ghost use mathlib.Core.Path.{_≡_};
 ghost use mathlib.Core.Bool.{true};
-ghost use Prim.Native.Nat.{_+_, _≤_, _<_, max};
+ghost use Prim.Native.Nat.{_+_, _<_, max};
 ghost use lib.ListN.{length};
-ghost use Rattle.load.specs.Staging.{stagingBytes, countOf, placedBytes, payload, receivedSum, computedSum, formed, placeable, packageNumber, stagingAfter, addressesAfter};
+ghost use Rattle.load.specs.Staging.{stagingBytes, placedBytes, payload, receivedSum, computedSum, formed, placeable, packageNumber, stagingAfter, addressesAfter};
 use wire::read::byte_sum;
 use wire::read::u16_at;
 use wire::write::put_bytes;

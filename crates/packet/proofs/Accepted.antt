@@ -9,18 +9,19 @@ use lib.Dec.{eqb}
 use borrow.Author.Tests.{eq-eqb, ne-eqb, le-leb}
 use Rattle.wire.specs.Bytes.{at16, words, zeros}
 use Rattle.wire.specs.Lists.{EachBelow}
+use Rattle.wire.specs.Pieces.{each}
 use Rattle.wire.proofs.Bytes.{value16, value24}
+use Rattle.wire.proofs.Lists.{all-get, map-at, each-append}
+use Rattle.wire.proofs.Pieces.{table-is, each-all}
 use Rattle.settings.specs.declared.Settings.{Settings}
 use Rattle.settings.specs.Settings.{slotCount}
 use Rattle.packet.specs.declared.kind.Kind.{Kind}
 use Rattle.packet.specs.declared.kind.Kind.the-variants.{Rate, Sample, Beacon}
 use Rattle.packet.specs.Rate.{countLimit, rateCode, leastCount, codeValid}
-use Rattle.packet.specs.Lists.{each}
 use Rattle.packet.specs.Packet.{rateApplication, sampleApplication, beaconApplication, lastSample, packetOf, codes, bit, flagsOf, settingsBytes, rateBody, beaconBody}
 use Rattle.packet.specs.Read.{applicationOf, kindOf, isKind, isSet, ratesOf, settingsOf, sumOf, codesGood, zerosGood, recordGood, recordsGood, rateGood, sampleGood, beaconGood, bodyGood, readNumber}
 use Rattle.packet.specs.Ranges.{RateValues, SampleValues, BeaconValues}
 use Rattle.packet.proofs.Codes.{code-valid}
-use Rattle.packet.proofs.Runs.{below-append, map-at, all-get, table-is, each-all}
 use Rattle.packet.proofs.Written.{length-codes, length-rate-body, length-sample-body, length-beacon-body, codes-append}
 use Rattle.packet.proofs.Reading.{past-sum}
 use Rattle.packet.proofs.Back as back
@@ -117,7 +118,7 @@ module _ (f t : ℕ) (totals boxes : List ℕ) (s : Settings) (sum : ℕ) (v : R
   length-counts = length-append totals boxes ∙ omega (arith, v .totals-are, v .boxes-are)
 
   counts-fit : EachBelow countLimit (totals ++ boxes)
-  counts-fit = below-append countLimit totals boxes (v .totals-fit) (v .boxes-fit)
+  counts-fit = each-append countLimit totals boxes (v .totals-fit) (v .boxes-fit)
 
   rate-split : rate-body ≡ codes (totals ++ boxes) ++ settingsBytes s sum
   rate-split = ap (λ (l : List ℕ). l ++ settingsBytes s sum) (codes-append totals boxes)
@@ -203,7 +204,7 @@ module _ (f t p : ℕ) (records : List ℕ) (v : SampleValues p records) where
       each-all _ 64 (λ i h.
       let k : i < length records = omega (arith, v .records-are) in
       ap recordGood (back.record-back (sampleApplication + p) f t p (words records) sample-length records refl i k)
-      ∙ all-get recordGood records i k (v .records-good))
+      ∙ all-get recordGood records 0 i k (v .records-good))
 
   sample-good-back : sampleGood samples-are ≡ true
   unfolding sampleGood zerosGood each

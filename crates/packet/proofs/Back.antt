@@ -11,10 +11,10 @@ use borrow.Author.Tests.{eq-eqb}
 use Rattle.wire.specs.Bytes.{one, be16, be32, at16, words, total}
 use Rattle.wire.proofs.Bytes.{value16, value32}
 use Rattle.packet.specs.Rate.{rateCode}
-use Rattle.packet.specs.Lists.{runs}
+use Rattle.wire.specs.Pieces.{runs}
 use Rattle.packet.specs.Packet.{header, trailer, summed, packetOf, codes}
 use Rattle.packet.specs.Read.{applicationOf, sequenceOf, timeOf, frameOf, markOf, kindOf, isKind, codeAt, recordAt, fieldsGood, headerGood, sumGood}
-use Rattle.packet.proofs.Runs.{length-runs, runs-at, words-runs}
+use Rattle.wire.proofs.Pieces.{length-runs, runs-at, words-runs}
 use Rattle.packet.proofs.Written.{length-header, length-inner, length-packet}
 
 -- ---- an index behind a first part of n elements, and one in a middle part

@@ -1,7 +1,7 @@
 -- Laws of the rate code. Other files go by those marked `pub`, and open no definition of specs/Rate.antt. Assumes nothing.
 use mathlib.Core.Path.{_≡_, refl, sym, ap, _∙_}
 use mathlib.Core.Logic.{_⊎_, inl, inr, ⊎-elim}
-use mathlib.Core.Bool.{Bool, true, false, _||_, false≢true, or-true}
+use mathlib.Core.Bool.{Bool, true, false, false≢true, or-true}
 use mathlib.Core.List.{map}
 use Prim.Native.Nat.{ℕ, zero, suc, _+_, _-_, _*_, _/_, _%_, _^_, _≤_, _<_}
 use native.Mathlib.Omega.{arith}
@@ -10,7 +10,7 @@ use lib.Pow.{pow-pos, pow-mono, pow-add}
 use lib.Dec.{ltb, leb, eqb}
 use lib.Count.{leadingZeros, leading-top}
 use borrow.Author.Tests.{lt-ltb, le-ltb, ltb-true, ltb-false, leb-true, leb-false, le-leb, eqb-true}
-use Rattle.wire.proofs.Lists.{and-split}
+use Rattle.wire.proofs.Lists.{and-split, or-split}
 use Rattle.packet.specs.Rate.{countLimit, leastFrom, shift, rateCode, leastCount, codeValid, codeCases}
 
 -- ---- the least number that passes a test
@@ -193,17 +193,13 @@ pub record Parts (c : ℕ) : Type 0 where
   pub small : c / 4096 ≤ 12
   pub high : (c / 4096 ≡ 0) ⊎ (2048 ≤ c % 4096)
 
-or-cases : (a b : Bool) → (a || b) ≡ true → (a ≡ true) ⊎ (b ≡ true)
-or-cases true b h = inl refl
-or-cases false b h = inr h
-
 parts : (c : ℕ) → codeValid c ≡ true → Parts c
 unfolding codeValid
 parts c h =
     let t = and-split _ _ h in
     record {
       small = leb-true (c / 4096) 12 (t .0);
-      high = ⊎-elim (λ e. inl (eqb-true (c / 4096) 0 e)) (λ e. inr (leb-true 2048 (c % 4096) e)) (or-cases _ _ (t .1));
+      high = ⊎-elim (λ e. inl (eqb-true (c / 4096) 0 e)) (λ e. inr (leb-true 2048 (c % 4096) e)) (or-split _ _ (t .1));
     }
 
 pub least-below : (c : ℕ) → codeValid c ≡ true → leastCount c < countLimit

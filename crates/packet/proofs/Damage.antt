@@ -13,11 +13,11 @@ use Rattle.wire.specs.Bytes.{one, total, be16, be32, words, zeros}
 use Rattle.wire.specs.Lists.{EachBelow}
 use Rattle.settings.specs.declared.Settings.{Settings}
 use Rattle.packet.specs.Rate.{countLimit, rateCode}
-use Rattle.packet.specs.Lists.{runs}
+use Rattle.wire.specs.Pieces.{runs}
 use Rattle.packet.specs.Packet.{packetBytes, header, trailer, summed, packetOf, codes, settingsBytes}
 use Rattle.packet.specs.Read.{headerGood, sumGood, readNumber}
 use Rattle.packet.specs.Ranges.{Stamp}
-use Rattle.packet.proofs.Runs.{words-runs}
+use Rattle.wire.proofs.Pieces.{words-runs}
 use Rattle.packet.proofs.Codes.{code-fits}
 use Rattle.packet.proofs.Accepted.{flags-le}
 

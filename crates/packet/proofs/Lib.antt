@@ -1,5 +1,4 @@
 pub mod Codes
-pub mod Runs
 pub mod Written
 pub mod Reading
 pub mod Back

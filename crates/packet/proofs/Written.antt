@@ -9,7 +9,7 @@ use Rattle.wire.proofs.Bytes.{then, take-put, length-put, length-words}
 use Rattle.settings.specs.declared.Settings.{Settings}
 use Rattle.packet.specs.Rate.{rateCode}
 use Rattle.packet.specs.Packet.{rateApplication, sampleApplication, beaconApplication, header, trailer, summed, packetOf, codes, settingsBytes, rateBody, beaconBody, ratePacket, samplePacket, beaconPacket}
-use Rattle.packet.proofs.Runs.{runs-append, runs-take, length-runs, length-runs-take}
+use Rattle.wire.proofs.Pieces.{runs-append, runs-take, length-runs, length-runs-take}
 
 pub length-header : (a f t : ℕ) → length (header a f t) ≡ 11
 unfolding header

@@ -1,5 +1,4 @@
 pub mod Rate
-pub mod Lists
 pub mod Packet
 pub mod TableSum
 pub mod Read

@@ -5,7 +5,7 @@ use mathlib.Core.List.{List, _++_}
 use Rattle.wire.specs.Bytes.{one, zeros, be16, be24, be32, words, total}
 use Rattle.settings.specs.declared.Settings.{Settings}
 use Rattle.packet.specs.Rate.{rateCode}
-use Rattle.packet.specs.Lists.{runs}
+use Rattle.wire.specs.Pieces.{runs}
 
 -- "rate (application number 605), samples 606 to 616, beacon 624": sample packet p has 606 + p
 abbrev pub rateApplication : ℕ

@@ -9,7 +9,7 @@ use Rattle.wire.specs.Bytes.{at16, at24, at32, total}
 use Rattle.settings.specs.declared.Settings.{Settings}
 use Rattle.settings.specs.Settings.{slotCount}
 use Rattle.packet.specs.Rate.{leastCount, codeValid}
-use Rattle.packet.specs.Lists.{table, each}
+use Rattle.wire.specs.Pieces.{table, each}
 use Rattle.packet.specs.Packet.{packetBytes, rateApplication, sampleApplication, beaconApplication, lastSample}
 use Rattle.packet.specs.declared.kind.Kind.{Kind}
 use Rattle.packet.specs.declared.kind.Kind.the-variants.{Rate, Sample, Beacon, None}

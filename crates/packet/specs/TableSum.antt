@@ -3,7 +3,7 @@ use Prim.Native.Nat.{ℕ, _+_, _%_}
 use mathlib.Core.List.{List}
 use Rattle.wire.specs.Bytes.{total}
 use Rattle.tables.specs.Tables.{first, tableWords, wordAt}
-use Rattle.packet.specs.Lists.{table}
+use Rattle.wire.specs.Pieces.{table}
 
 -- "264-266 sum of all table words modulo 2^24"
 unfoldable pub tableSum : List ℕ → ℕ

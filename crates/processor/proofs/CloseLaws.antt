@@ -2,27 +2,26 @@
 -- Assumes nothing.
 use mathlib.Core.Path.{_≡_, refl, sym, ap, _∙_}
 use mathlib.Core.Bool.{Bool, true, false, cond}
-use mathlib.Core.List.{List, [], _∷_, _++_}
+use mathlib.Core.List.{List, [], _∷_}
 use Prim.Native.Nat.{ℕ, zero, suc, _+_, _*_, _≤_, _<_}
 use native.Mathlib.Omega.{arith}
 use native.Mathlib.Numerals.{add-one}
 use borrow.Author.Tests.{eqb-true}
 use lib.Dec.{eqb}
-use lib.ListN.{length, take, drop, getD, length-append, length-replicate, drop-of-length-le}
+use lib.ListN.{length, take, drop, getD, length-append, drop-of-length-le}
 use lib.Seq.{drop-cons}
-use Rattle.wire.specs.Bytes.{zeros, words}
 use Rattle.wire.specs.Lists.{all, EachBelow}
-use Rattle.wire.proofs.Bytes.{length-part, length-words}
+use Rattle.wire.proofs.Bytes.{length-part}
 use Rattle.wire.proofs.Lists.{and-left, and-right, all-at}
 use Rattle.settings.specs.declared.Settings.{Settings}
 use Rattle.settings.specs.Settings.{slotCount}
 use Rattle.tables.specs.Tables.{tableBytes}
 use Rattle.sort.specs.declared.counts.Counts.{Counts}
-use Rattle.packet.specs.Packet.{packetBytes, codes, ratePacket, samplePacket, beaconPacket}
+use Rattle.packet.specs.Packet.{packetBytes, samplePacket}
 use Rattle.packet.specs.Rate.{countLimit}
 use Rattle.packet.specs.Read.{recordGood}
 use Rattle.packet.specs.TableSum.{tableSum}
-use Rattle.packet.proofs.Written.{length-packet, length-codes, length-settings}
+use Rattle.packet.proofs.Written.{length-rate, length-sample, length-beacon}
 use Rattle.load.specs.Staging.{stagingBytes}
 use Rattle.load.proofs.LoadLaws.{length-loaded}
 use Rattle.command.specs.declared.command.Command.{Command}
@@ -70,12 +69,6 @@ close-closes s tables staging slots out h =
     }
 
 -- ---- commands one after the other
-
--- where each element passes the test, so does the one at i
-pub all-nth : {A : Type 0} (p : A → Bool) (xs : List A) (d : A) (i : ℕ) → i < length xs → all p xs ≡ true → p (getD xs i d) ≡ true
-all-nth p [] d i h t = absurd (omega arith)
-all-nth p (x ∷ xs) d zero h t = and-left (p x) (all p xs) t
-all-nth p (x ∷ xs) d (suc i) h t = all-nth p xs d i (omega arith) (and-right (p x) (all p xs) t)
 
 -- what `after` makes of a list, where it takes one step for each element
 module _ {S W : Type 0} (step : S → W → S) (after : S → List W → S) (none : (s : S) → after s [] ≡ s)
@@ -142,23 +135,6 @@ pub beacons-fit : (s : State) → Within s → EachBelow countLimit (s .counts .
 beacons-fit s w k = omega (arith, all-at (s .taken) (s .counts .beacons) k (w .beacons-most), w .taken-most)
 
 module _ (frame time : ℕ) where
-  pub length-rate : (totals boxes : List ℕ) (s : Settings) (sum : ℕ) → length totals ≡ 8 → length boxes ≡ 116
-      → length (ratePacket frame time totals boxes s sum) ≡ packetBytes
-  unfolding ratePacket
-  length-rate totals boxes s sum lt lb =
-      length-packet _ frame time 0 _
-      (simp (length-append, length-codes totals, length-codes boxes, length-settings s sum) (omega arith))
-
-  pub length-sample : (p : ℕ) (records : List ℕ) → length records ≡ 64 → length (samplePacket frame time p records) ≡ packetBytes
-  unfolding samplePacket
-  length-sample p records l = length-packet _ frame time p (words records) (omega (arith, length-words records))
-
-  pub length-beacon : (beacons : List ℕ) → length beacons ≡ 12 → length (beaconPacket frame time beacons) ≡ packetBytes
-  unfolding beaconPacket
-  length-beacon beacons l =
-      length-packet _ frame time 0 (codes beacons ++ zeros 232)
-      (length-append (codes beacons) (zeros 232) ∙ omega (arith, length-codes beacons, length-replicate {A = ℕ} 232 0))
-
   pub length-samples : (slots : List ℕ) (n : ℕ) → 64 * n ≤ length slots → length (samplesOf frame time slots n) ≡ packetBytes * n
   unfolding samplesOf
   length-samples slots zero h = refl
@@ -166,7 +142,7 @@ module _ (frame time : ℕ) where
       let records : List ℕ = take 64 (drop (64 * n) slots) in
       let l : length records ≡ 64 = length-part slots (64 * n) 64 (omega arith) in
       length-append (samplesOf frame time slots n) (samplePacket frame time n records)
-      ∙ omega (arith, length-samples slots n (omega arith), length-sample n records l)
+      ∙ omega (arith, length-samples slots n (omega arith), length-sample frame time n records l)
 
   -- the thirteen packets fill the output
   pub length-packets : (totals : List ℕ) (counts : Counts) (settings : Settings) (tables slots : List ℕ)
@@ -176,7 +152,7 @@ module _ (frame time : ℕ) where
   length-packets totals counts settings tables slots lt lb lc ls =
       simp length-append (omega (
         arith,
-        length-rate totals (counts .boxes) settings (tableSum tables) lt lb,
+        length-rate totals (counts .boxes) settings (tableSum tables) lt lb frame time,
         length-samples slots samplePackets (omega arith),
-        length-beacon (counts .beacons) lc,
+        length-beacon frame time (counts .beacons) lc,
       ))

@@ -1,5 +1,5 @@
 -- What every call hands back (document 01, "Causes and their numbers"). Assumes nothing.
-use mathlib.Core.Bool.{Bool, cond}
+use mathlib.Core.Bool.{cond}
 use Prim.Native.Nat.{ℕ}
 use lib.Dec.{eqb}
 use Rattle.state.specs.declared.State.{State}

@@ -1,5 +1,5 @@
 -- The call `close` (document 01, "One event", "Commands and loads", "Packets"). Assumes nothing.
-use mathlib.Core.Bool.{Bool, cond}
+use mathlib.Core.Bool.{cond}
 use mathlib.Core.List.{List, [], _∷_, _++_}
 use Prim.Native.Nat.{ℕ, zero, suc, _+_, _*_, _%_}
 use lib.Dec.{eqb, leb}

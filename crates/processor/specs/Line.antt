@@ -1,5 +1,5 @@
 -- The call `line` (document 01, "Commands and loads" and "Causes and their numbers"). Assumes nothing.
-use mathlib.Core.Bool.{Bool, true, false, _&&_, cond}
+use mathlib.Core.Bool.{Bool, _&&_, cond}
 use mathlib.Core.List.{List}
 use Prim.Native.Nat.{ℕ, _+_}
 use lib.Dec.{eqb, leb}

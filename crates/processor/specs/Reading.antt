@@ -1,10 +1,10 @@
 -- The call `reading` (document 01, "One event" and "Causes and their numbers"). Assumes nothing.
-use mathlib.Core.Bool.{Bool, cond}
+use mathlib.Core.Bool.{cond}
 use mathlib.Core.List.{List}
 use Prim.Native.Nat.{ℕ, _+_}
 use lib.Dec.{ltb}
 use lib.ListN.{getD}
-use Rattle.packet.specs.Lists.{table}
+use Rattle.wire.specs.Pieces.{table}
 use Rattle.state.specs.declared.State.{State}
 use Rattle.state.specs.Limits.{mostReadings, withinLimits}
 use Rattle.processor.specs.declared.Answer.{Answer}

@@ -2,7 +2,6 @@
 ghost use mathlib.Core.Path.{_≡_};
 ghost use mathlib.Core.Bool.{cond};
 ghost use Prim.Native.Nat.{_+_, _%_, _≤_};
-ghost use lib.ListN.{length};
 ghost use Rattle.state.specs.State.{noCounts};
 ghost use Rattle.state.specs.Limits.{mostCommands};
 ghost use Rattle.processor.specs.Close.{closeNumber, stateClosed, closeAnswer, closeTables, closeSlots, closeOut};

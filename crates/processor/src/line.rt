@@ -6,7 +6,7 @@ ghost use lib.ListN.{length};
 ghost use Rattle.command.specs.Echo.{echoBytes};
 ghost use Rattle.command.specs.Grammar.{bytesOk};
 ghost use Rattle.state.specs.Limits.{mostCommands, withinLimits};
-ghost use Rattle.processor.specs.Line.{loadWaits, commandsFull, refusalOf, lineCause, pushed, addressed, stateAfter, acceptedEchoFor, lineNumber, lineAnswer, lineEcho};
+ghost use Rattle.processor.specs.Line.{loadWaits, commandsFull, refusalOf, lineCause, pushed, addressed, stateAfter, acceptedEchoFor, lineAnswer, lineEcho};
 use crate::Answer;
 use command::command::Command;
 use command::command::Line;

@@ -1,16 +1,15 @@
 -- Laws of the columns: the quotient rounded down, its sign and its range. Assumes nothing.
 use mathlib.Core.Path.{_≡_, refl, sym, ap, _∙_, subst}
 use mathlib.Core.Bool.{Bool, true, false, cond}
-use mathlib.Core.List.{List, [], _∷_, map}
 use Prim.Native.Nat.{ℕ, zero, suc, _+_, _-_, _*_, _/_, _^_, _≤_, _<_}
-use lib.Dec.{leb, ltb, leb→le}
+use lib.Dec.{leb, ltb}
 use native.Mathlib.Omega.{arith}
 use lib.IntN.{ℤ, pos, negsuc, negℤ, subℕ, _+ℤ_, _-ℤ_, _*ℤ_, +ℤ-assoc, +ℤ-comm, negℤ-+ℤ}
-use lib.Signed.{_≤ℤ_, nonNeg}
+use lib.Signed.{nonNeg}
 use mir.Syntax.{w32}
 use mir.Val.{SFits, toZ, ofZ}
 use mir.ValLaws.{toZ-ofZ, toZ-pos}
-use borrow.Author.Tests.{lt-ltb, le-ltb, ltb-true, ltb-false, leb-true, le-leb}
+use borrow.Author.Tests.{lt-ltb, le-ltb, ltb-true, ltb-false, leb-true}
 use Rattle.sort.specs.declared.columns.Column.{Column}
 use Rattle.sort.specs.declared.columns.Column.the-variants.{Inside, Outside}
 use Rattle.sort.specs.Columns.{floorZ, uOf, massColumn, energyColumn, bounded}

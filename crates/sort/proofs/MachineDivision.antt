@@ -1,6 +1,6 @@
 -- Signed numbers in the machine: division rounded down by a test of the sign, and the cast of a column. Assumes nothing.
 use mathlib.Core.Path.{_≡_, refl, sym, ap, _∙_, subst}
-use Prim.Native.Nat.{ℕ, zero, suc, _+_, _-_, _/_, _^_, _≤_, _<_}
+use Prim.Native.Nat.{ℕ, _-_, _/_, _≤_, _<_}
 use native.Mathlib.Nat.{div-le-self, lt-of-le-of-lt, lt-of-lt-of-le}
 use native.Mathlib.Omega.{arith}
 use lib.IntN.{ℤ, pos, negsuc, natAbs, _-ℤ_}
@@ -10,7 +10,7 @@ use lib.Dec.{T, leb→le, ltb→lt, lit<, lit≤}
 use borrow.Author.Tests.{le-leb, lt-leb}
 use mir.Syntax.{w32, w64}
 use mir.Val.{Fits, SFits, toZ, ofZ}
-use mir.ValLaws.{toZ-ofZ, sfits-le}
+use mir.ValLaws.{toZ-ofZ}
 use Rattle.sort.specs.declared.columns.Column.{Column}
 use Rattle.sort.specs.declared.columns.Column.the-variants.{Inside, Outside}
 use Rattle.sort.specs.Columns.{floorZ, bounded}

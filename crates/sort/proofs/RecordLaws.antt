@@ -1,5 +1,5 @@
 -- Laws of the sample record. Assumes nothing.
-use mathlib.Core.Path.{_≡_, refl, sym, ap, _∙_}
+use mathlib.Core.Path.{_≡_, ap}
 use mathlib.Core.Bool.{Bool, true, false}
 use Prim.Native.Nat.{ℕ, _+_, _*_, _/_, _%_, _^_, _≤_, _<_}
 use native.Mathlib.Nat.{mod-eq-of-lt, one-mul}
@@ -13,7 +13,7 @@ use Rattle.sort.specs.Counts.{OutcomeNames}
 use Rattle.sort.specs.Event.{inRange}
 use Rattle.sort.specs.Samples.{boxOf, sampleFrom, eventRecord}
 use Rattle.sort.proofs.EventLaws.{in-range, channel-fits, box-from, box-fits}
-use Rattle.sort.specs.Record.{SampleFits, bitOf, recordOf, bitAt, sampleOf, recordBox}
+use Rattle.sort.specs.Record.{SampleFits, bitOf, recordOf, sampleOf, recordBox}
 
 -- one shifted left by fewer than 32 does not wrap
 pub mask : (k : ℕ) → k < 32 → 1 * 2 ^ k % 4294967296 ≡ 2 ^ k

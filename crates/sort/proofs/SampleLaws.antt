@@ -3,17 +3,18 @@ use mathlib.Core.Path.{_≡_, refl, sym, ap, _∙_}
 use mathlib.Core.Bool.{Bool, true, false, _&&_, cond}
 use mathlib.Core.List.{List, [], _∷_, _++_, map, append-nil}
 use Prim.Native.Nat.{ℕ, zero, suc, _+_, _-_, _≤_, _<_, min}
-use native.Mathlib.Nat.{le-of-lt, min-zero, min-eq-right, add-zero}
+use native.Mathlib.Nat.{le-of-lt, min-zero, min-eq-right}
 use native.Mathlib.Numerals.{add-one}
 use native.Mathlib.Omega.{arith}
-use borrow.Author.Tests.{lt-ltb, le-ltb, ltb-true, ltb-false}
+use borrow.Author.Tests.{ltb-true, ltb-false}
 use lib.Dec.{ltb}
-use lib.ListN.{length, set, take, drop, replicate, length-set, length-take, length-append, length-drop, length-map, length-replicate, drop-of-length-le}
-use lib.Seq.{take-all, take-length, drop-cons, take-append-le, drop-append-le, set-append-seam, set-append-left, append-snoc}
+use lib.ListN.{length, set, take, drop, replicate, length-take, length-append, length-drop, length-map, drop-of-length-le}
+use lib.Seq.{take-all, take-length, drop-cons, take-append-le, drop-append-le, set-append-seam, append-snoc}
 use Rattle.wire.specs.Lists.{joinIf, keep}
+use Rattle.wire.specs.Pieces.{padded}
 use Rattle.wire.proofs.Lists.{keep-append, keep-one, length-keep}
-use Rattle.sort.specs.declared.slots.Placed.{Placed}
-use Rattle.sort.specs.Samples.{Place, free, late, none, placeOf, slotsAfter, placedAfter, later, replacedBy, sampled, padded, filled, slotsOf, placedBy}
+use Rattle.wire.proofs.Pieces.{padded-fill, padded-set}
+use Rattle.sort.specs.Samples.{Place, free, late, none, placeOf, slotsAfter, placedAfter, later, replacedBy, sampled, filled, slotsOf, placedBy}
 
 -- ---- the rule
 
@@ -78,17 +79,6 @@ module _ {A : Type 0} where
     length-sampled l q = simp (length-append, length-take, length-drop) (omega (arith, length-later l))
 
 -- ---- the slots
-
-pub padded-fill : (N : ℕ) (l : List ℕ) (x : ℕ) → length l < N → set (padded N l) (length l) x ≡ padded N (l ++ x ∷ [])
-unfolding padded
-padded-fill N l x h =
-    let e₁ : N - length l ≡ suc (N - suc (length l)) = omega arith in
-    let e₂ : N - (length l + 1) ≡ N - suc (length l) = omega arith in
-    rw (length-append, e₂, e₁, set-append-seam, append-snoc)
-
-pub padded-set : (N : ℕ) (l : List ℕ) (i x : ℕ) → i < length l → set (padded N l) i x ≡ padded N (set l i x)
-unfolding padded
-padded-set N l i x h = rw (set-append-left l (replicate (N - length l) 0) i x h, length-set)
 
 module _ {A B : Type 0} (f : A → B) where
   pub map-set : (l : List A) (i : ℕ) (a : A) → map f (set l i a) ≡ set (map f l) i (f a)

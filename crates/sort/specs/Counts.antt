@@ -1,5 +1,5 @@
 -- The boxes and beacons that an event counts in (document 01, "One event", rules 1, 2, 4 and 5). Assumes nothing.
-use mathlib.Core.Bool.{Bool, true, false, cond}
+use mathlib.Core.Bool.{Bool, cond}
 use mathlib.Core.List.{List, [], _∷_}
 use Prim.Native.Nat.{ℕ, _-_, _≤_}
 use lib.Dec.{leb}

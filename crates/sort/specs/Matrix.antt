@@ -1,5 +1,5 @@
 -- The matrix and its cells (document 01, "The lookup tables" and "One event", rule 5). Assumes nothing.
-use mathlib.Core.Bool.{Bool, _&&_, cond}
+use mathlib.Core.Bool.{_&&_, cond}
 use mathlib.Core.List.{List}
 use Prim.Native.Nat.{ℕ, _+_, _-_, _*_, _%_}
 use lib.Dec.{leb}

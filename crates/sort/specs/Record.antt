@@ -1,12 +1,8 @@
 -- The sample record (document 01, "One event", Samples). Assumes nothing.
-use mathlib.Core.Bool.{Bool, true, false, cond}
+use mathlib.Core.Bool.{Bool, cond}
 use Prim.Native.Nat.{ℕ, _+_, _*_, _/_, _%_, _^_, _<_}
 use lib.Dec.{eqb}
-use Rattle.sort.specs.declared.event.Event.{Event}
 use Rattle.sort.specs.declared.record.Sample.{Sample}
-use Rattle.sort.specs.declared.sorting.Outcome.{Outcome}
-use Rattle.sort.specs.declared.sorting.Outcome.the-variants.{Discarded, OutOfBounds, InCell}
-use Rattle.sort.specs.Event.{channelOf}
 
 abbrev pub bitOf : Bool → ℕ
 bitOf b = cond b 1 0

@@ -1,10 +1,11 @@
 -- The samples of an interval (document 01, "One event", Samples). Assumes nothing.
-use mathlib.Core.Bool.{Bool, true, false, _&&_, _||_, cond}
-use mathlib.Core.List.{List, [], _∷_, _++_, map}
-use Prim.Native.Nat.{ℕ, _+_, _-_, min}
+use mathlib.Core.Bool.{Bool, false, _&&_, _||_, cond}
+use mathlib.Core.List.{List, _++_, map}
+use Prim.Native.Nat.{ℕ, _+_, min}
 use lib.Dec.{leb, ltb}
-use lib.ListN.{length, take, drop, set, replicate}
+use lib.ListN.{length, take, drop, set}
 use Rattle.wire.specs.Lists.{keep}
+use Rattle.wire.specs.Pieces.{padded}
 use Rattle.sort.specs.declared.event.Event.{Event}
 use Rattle.sort.specs.declared.record.Sample.{Sample}
 use Rattle.sort.specs.declared.slots.Placed.{Placed}
@@ -84,15 +85,12 @@ module _ {A : Type 0} (priority : A → Bool) (N limhi : ℕ) where
   unfoldable pub sampled : List A → List A
   sampled l = take (replacedBy l) (later l) ++ drop (replacedBy l) (take N l)
 
--- N slots: the records, then zeros. "A zero slot is empty"
-unfoldable pub padded : ℕ → List ℕ → List ℕ
-padded N l = l ++ replicate (N - length l) 0
-
 -- "filled slots (the number of lent slots not zero)"
 unfoldable pub filled : List ℕ → ℕ
 filled slots = length (keep (ltb 0) slots)
 
--- the slots, how many of them are used and how many replaced, after all eligible events l in order
+-- N slots after all eligible events l in order: the records, then zeros ("A zero slot is empty"); how many of them are
+-- used and how many replaced
 module _ {A : Type 0} (priority : A → Bool) (rec : A → ℕ) (N limhi : ℕ) where
   unfoldable pub slotsOf : List A → List ℕ
   slotsOf l = padded N (map rec (sampled priority N limhi l))

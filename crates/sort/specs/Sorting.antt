@@ -1,5 +1,5 @@
 -- What becomes of one event (document 01, "One event", rules 1 to 5). Assumes nothing.
-use mathlib.Core.Bool.{Bool, true, false, _&&_, _||_, not, cond}
+use mathlib.Core.Bool.{Bool, _&&_, _||_, not, cond}
 use mathlib.Core.List.{List}
 use Prim.Native.Nat.{ℕ, _+_, _<_}
 use Rattle.settings.specs.declared.Settings.{Settings}

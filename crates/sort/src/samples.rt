@@ -1,7 +1,7 @@
 // Which events are eligible as samples, and their records.
 ghost use mathlib.Core.Path.{_≡_};
 ghost use mathlib.Core.Bool.{true};
-ghost use Prim.Native.Nat.{_≤_, _<_};
+ghost use Prim.Native.Nat.{_<_};
 ghost use Rattle.sort.specs.Counts.{OutcomeNames};
 ghost use Rattle.sort.specs.Event.{inRange};
 ghost use Rattle.sort.specs.Samples.{boxOf, priorityOf, eligible, eventRecord};

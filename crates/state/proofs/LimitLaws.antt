@@ -1,19 +1,16 @@
 -- The parts of `withinLimits`. Assumes nothing.
-use mathlib.Core.Path.{_≡_, refl}
-use mathlib.Core.Bool.{Bool, true, false, _&&_}
-use mathlib.Core.List.{List}
+use mathlib.Core.Path.{_≡_}
+use mathlib.Core.Bool.{true}
 use Prim.Native.Nat.{ℕ, _*_, _≤_, _<_}
 use native.Mathlib.Omega.{arith}
 use borrow.Author.Tests.{leb-true, le-leb}
-use lib.Dec.{leb}
 use lib.ListN.{getD, take}
 use Rattle.wire.specs.Lists.{all, atMost, EachBelow}
 use Rattle.wire.proofs.Lists.{and-split, all-at}
-use Rattle.settings.specs.Settings.{slotCount, settingsWithin}
+use Rattle.settings.specs.Settings.{slotCount}
 use Rattle.load.specs.Staging.{stagingBytes}
 use Rattle.state.specs.declared.State.{State}
-use Rattle.state.specs.declared.Waiting.{Waiting}
-use Rattle.state.specs.Limits.{mostEvents, mostReadings, mostCommands, countsWithin, slotsWithin, readingsWithin, givenAt, loadsIn, waitingWithin, commandsWithin, stagingWithin, withinLimits}
+use Rattle.state.specs.Limits.{mostEvents, mostReadings, mostCommands, givenAt, loadsIn, withinLimits}
 
 -- the limits as facts
 pub record Within (s : State) : Type 0 where

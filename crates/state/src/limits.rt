@@ -43,12 +43,15 @@ fn readings_within(readings: u32, totals: &[u32; 8]) -> bool
     all_at_most(totals, 65535 * readings)
 }
 
-// Accepted and waiting commands.
+// Accepted and waiting commands. Where none waits, the list is neither read nor copied.
 fn commands_within(accepted: usize, waiting: [Waiting; 32], waiters: usize, reach: u32) -> bool
     ensures { λ r. ⌜ r ≡ commandsWithin accepted waiting waiters reach ⌝ }
 {
     if crate::MOST_COMMANDS < accepted {
         return false;
+    }
+    if waiters == 0 {
+        return true;
     }
     if accepted < waiters {
         return false;

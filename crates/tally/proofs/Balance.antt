@@ -1,27 +1,26 @@
 -- The three balances of an interval's events. Assumes nothing.
-use mathlib.Core.Path.{_≡_, refl, sym, ap, ap₂, _∙_}
-use mathlib.Core.Bool.{Bool, true, false, _||_, cond}
-use mathlib.Core.List.{List, [], _∷_, _++_}
+use mathlib.Core.Path.{_≡_, refl, sym, ap, _∙_}
+use mathlib.Core.Bool.{Bool, true, false, _||_}
+use mathlib.Core.List.{List, [], _∷_}
 use Prim.Native.Nat.{ℕ, zero, suc, _+_, _-_, _≤_, _<_}
-use native.Mathlib.Nat.{add-zero}
 use native.Mathlib.Omega.{arith}
 use native.Mathlib.Decide.{ℕ-discrete}
 use borrow.Author.Tests.{eq-eqb, ne-eqb}
 use lib.Dec.{eqb}
-use lib.ListN.{length, getD, drop, length-append, length-drop}
+use lib.ListN.{length, drop, length-drop}
 use lib.Seq.{getD-drop}
 use Rattle.wire.specs.Bytes.{total}
 use Rattle.wire.specs.Lists.{joinIf, keep}
 use Rattle.wire.proofs.Bytes.{total-append}
-use Rattle.packet.specs.Lists.{table}
-use Rattle.packet.proofs.Runs.{length-table, table-at, table-is}
+use Rattle.wire.specs.Pieces.{table}
+use Rattle.wire.proofs.Pieces.{length-table, table-at, table-is}
 use Rattle.sort.specs.declared.event.Event.{Event}
 use Rattle.sort.specs.declared.sorting.Outcome.{Outcome}
 use Rattle.sort.specs.declared.sorting.Outcome.the-variants.{Discarded, OutOfBounds, InCell}
 use Rattle.sort.specs.Counts.{gainBox, priorityBox, boxesOf, OutcomeNames}
 use Rattle.sort.proofs.EventLaws.{outcome-names}
-use Rattle.tally.specs.Tally.{Tally, sortedBy, holds, inBox, inBeacon, countsOf}
-use Rattle.tally.specs.Demand3.{box, cells, Balanced}
+use Rattle.tally.specs.Tally.{Tally, sortedBy, holds, inBox, countsOf}
+use Rattle.tally.specs.Demand3.{cells, Balanced}
 use Rattle.tally.proofs.CountLaws.{Differ, one, same-table, either-one, boxes-differ}
 
 -- ---- sums over boxes 7 to 116

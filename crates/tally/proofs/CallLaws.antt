@@ -16,7 +16,7 @@ use Rattle.processor.specs.Reading.{readingNumber, stateRead, readingAnswer}
 use Rattle.processor.specs.Line.{lineNumber, pushed, addressed, stateAfter, lineAnswer}
 use Rattle.processor.specs.Package.{isPlaced, stateStaged, packageCallNumber, packageAnswer, packageStaging}
 use Rattle.processor.specs.Close.{closeNumber, closedBy, closeAnswer, closeTables, closeSlots}
-use Rattle.tally.specs.Calls.{own, found, Call, event, reading, line, load, close, numberOf, World, next, reply}
+use Rattle.tally.specs.Calls.{found, Call, event, reading, line, load, close, numberOf, World, next, reply}
 use Rattle.tally.proofs.Steps.{ClosedRecord, RefusedRecord, kept-same}
 
 -- ---- what is refused, 10 apart, leaves the state and the processor's own buffers

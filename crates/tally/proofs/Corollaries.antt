@@ -1,21 +1,20 @@
 -- What follows from demand 3 for the next call after any lawful list. Assumes nothing.
-use mathlib.Core.Path.{_≡_, refl, sym, ap, _∙_, subst}
+use mathlib.Core.Path.{_≡_, refl, ap, _∙_, subst}
 use mathlib.Core.Bool.{Bool, true, false, _&&_, _||_, cond, false≢true}
-use mathlib.Core.List.{List, [], _∷_, _++_, map}
-use Prim.Native.Nat.{ℕ, zero, suc, _+_, _-_, _/_, _%_, _≤_, _<_, min}
+use mathlib.Core.List.{List, [], _∷_, map}
+use Prim.Native.Nat.{ℕ, zero, suc, _-_, _/_, _%_, _≤_, min}
 use native.Mathlib.Omega.{arith}
-use borrow.Author.Tests.{eq-eqb, le-leb, leb-true, lt-ltb}
+use borrow.Author.Tests.{eq-eqb, le-leb, leb-true}
 use lib.Dec.{eqb, leb, ltb}
 use lib.ListN.{length, replicate, length-append, length-map, length-replicate}
 use Rattle.wire.specs.Lists.{all, joinIf, keep}
-use Rattle.wire.proofs.Lists.{and-split}
 use Rattle.settings.specs.Settings.{slotCount}
 use Rattle.tables.specs.Tables.{tableBytes}
 use Rattle.sort.specs.declared.event.Event.{Event}
-use Rattle.sort.specs.declared.sorting.Outcome.{Outcome}
-use Rattle.sort.specs.Counts.{OutcomeNames}
 use Rattle.sort.specs.Event.{inRange}
-use Rattle.sort.specs.Samples.{boxOf, eligible, sampled, padded, slotsOf}
+use Rattle.wire.specs.Pieces.{padded}
+use Rattle.wire.proofs.Lists.{all-append}
+use Rattle.sort.specs.Samples.{boxOf, sampled, slotsOf}
 use Rattle.sort.proofs.EventLaws.{outcome-names, box-fits}
 use Rattle.sort.proofs.RecordLaws.{event-box}
 use Rattle.sort.proofs.SampleLaws.{length-sampled}
@@ -30,11 +29,11 @@ use Rattle.state.specs.Limits.{mostEvents}
 use Rattle.processor.specs.Package.{isPlaced}
 use Rattle.processor.specs.Close.{outBytes, packetsOf}
 use Rattle.processor.proofs.CloseLaws.{length-tables-after-all}
-use Rattle.tally.specs.Calls.{Lent, own, found, Call, event, reading, line, load, close, Reply, answered, closed, World, freshWorld, reply, after, Lawful}
+use Rattle.tally.specs.Calls.{Lent, own, found, Call, event, reading, line, load, close, answered, closed, World, freshWorld, reply, after, Lawful}
 use Rattle.tally.specs.Tally.{Tally, freshTally, sortedBy, isEligible, eligibles, priority, recordFor, slotsFor, countsOf, totalsFor, frameFor, eventNumberFor, readingNumberFor, lineNumberFor, loadWaitsFor, loadNumberFor, closeNumberFor, joined, read, told, placed, ended, tnext, treply, tafter}
 use Rattle.tally.specs.View.{view}
 use Rattle.tally.specs.Demand3.{All}
-use Rattle.tally.proofs.Invariant.{Inv, all-append}
+use Rattle.tally.proofs.Invariant.{Inv}
 use Rattle.tally.proofs.Kept.{load-tests}
 use Rattle.tally.proofs.Places.{All-sampled}
 use Rattle.tally.proofs.Replies.{event-reply, close-reply}

@@ -1,23 +1,20 @@
 -- The counts of one event more. Assumes nothing.
-use mathlib.Core.Path.{_≡_, refl, sym, ap, ap₂, _∙_}
-use mathlib.Core.Logic.{_≢_}
+use mathlib.Core.Path.{_≡_, refl, sym, ap, _∙_}
 use mathlib.Core.Bool.{Bool, true, false, _||_, cond}
 use mathlib.Core.List.{List, [], _∷_, _++_}
-use Prim.Native.Nat.{ℕ, zero, suc, _+_, _-_, _≤_, _<_}
+use Prim.Native.Nat.{ℕ, _+_, _-_, _≤_, _<_}
 use native.Mathlib.Nat.{add-zero}
 use native.Mathlib.Omega.{arith}
 use native.Mathlib.Decide.{ℕ-discrete}
 use borrow.Author.Tests.{eq-eqb, ne-eqb, leb-true}
 use lib.Dec.{eqb, leb}
-use lib.ListN.{length, getD, set, length-append, length-set}
+use lib.ListN.{length, getD, length-append, length-set}
 use lib.Seq.{getD-set-same, getD-set-other}
 use Rattle.wire.specs.Lists.{bump, joinIf, keep}
 use Rattle.wire.proofs.Lists.{keep-append, keep-one}
-use Rattle.packet.specs.Lists.{table}
-use Rattle.packet.proofs.Runs.{length-table, table-at, table-is}
-use Rattle.sort.specs.declared.counts.Counts.{Counts}
+use Rattle.wire.specs.Pieces.{table}
+use Rattle.wire.proofs.Pieces.{length-table, table-at, table-is}
 use Rattle.sort.specs.declared.event.Event.{Event}
-use Rattle.sort.specs.declared.matrix.Cell.{Cell}
 use Rattle.sort.specs.declared.sorting.Outcome.{Outcome}
 use Rattle.sort.specs.declared.sorting.Outcome.the-variants.{Discarded, OutOfBounds, InCell}
 use Rattle.sort.specs.Counts.{gainBox, priorityBox, boxesOf, beaconsOf, tallied, countedOf, OutcomeNames}

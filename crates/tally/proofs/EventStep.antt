@@ -1,21 +1,18 @@
 -- One event more: the state and the slots. Assumes nothing.
-use mathlib.Core.Path.{_≡_, refl, sym, ap, _∙_}
+use mathlib.Core.Path.{_≡_, sym, ap, _∙_}
 use mathlib.Core.Bool.{Bool, true, false, cond}
 use mathlib.Core.List.{List, [], _∷_, _++_, append-nil}
-use Prim.Native.Nat.{ℕ, _+_, _≤_, min}
-use native.Mathlib.Omega.{arith}
+use Prim.Native.Nat.{_+_, _≤_, min}
 use lib.ListN.{length, length-append}
-use Rattle.wire.specs.Lists.{joinIf, keep}
+use Rattle.wire.specs.Lists.{joinIf}
 use Rattle.wire.proofs.Lists.{keep-append, keep-one}
 use Rattle.settings.specs.Settings.{slotCount}
 use Rattle.sort.specs.declared.event.Event.{Event}
-use Rattle.sort.specs.declared.slots.Placed.{Placed}
 use Rattle.sort.specs.Samples.{Place, none, placeOf, slotsAfter, placedAfter, replacedBy, slotsOf, placedBy}
 use Rattle.sort.proofs.SampleLaws.{place-agrees}
-use Rattle.state.specs.declared.State.{State}
 use Rattle.processor.specs.Event.{stateTaken}
 use Rattle.processor.specs.Event as call
-use Rattle.tally.specs.Tally.{Tally, sortedBy, isEligible, eligibles, priority, recordFor, slotsFor, totalsFor, countsOf, joined}
+use Rattle.tally.specs.Tally.{Tally, sortedBy, isEligible, eligibles, priority, recordFor, slotsFor, totalsFor, joined}
 use Rattle.tally.specs.View.{viewState}
 use Rattle.tally.proofs.CountLaws.{counts-snoc}
 

@@ -1,27 +1,25 @@
 -- What holds of the tally at every moment, and that the state it stands for is within its limits. Assumes nothing.
-use mathlib.Core.Path.{_≡_, refl, sym, ap, _∙_}
-use mathlib.Core.Bool.{Bool, true, false, _&&_}
+use mathlib.Core.Path.{_≡_, refl}
+use mathlib.Core.Bool.{true}
 use mathlib.Core.List.{List, [], _∷_, _++_, map}
-use Prim.Native.Nat.{ℕ, zero, suc, _+_, _-_, _*_, _≤_, _<_, min}
+use Prim.Native.Nat.{ℕ, zero, suc, _+_, _-_, _*_, _≤_}
 use native.Mathlib.Omega.{arith}
 use borrow.Author.Tests.{le-leb}
-use lib.Dec.{leb}
 use lib.ListN.{length, getD, take, drop, replicate, length-drop}
 use lib.Seq.{take-at}
 use Rattle.wire.specs.Bytes.{total}
-use Rattle.wire.specs.Lists.{all, atMost, EachBelow, keep}
-use Rattle.wire.proofs.Lists.{length-keep}
+use Rattle.wire.specs.Lists.{all, atMost, EachBelow}
+use Rattle.wire.proofs.Lists.{length-keep, all-append}
 use Rattle.settings.specs.Settings.{slotCount}
-use Rattle.packet.specs.Lists.{table}
-use Rattle.sort.specs.declared.event.Event.{Event}
+use Rattle.wire.specs.Pieces.{table}
 use Rattle.sort.specs.Event.{inRange}
 use Rattle.sort.specs.Samples.{placedBy, replacedBy, later}
 use Rattle.load.specs.Staging.{stagingBytes}
 use Rattle.state.specs.declared.Waiting.{Waiting}
 use Rattle.state.specs.State.{filler}
 use Rattle.state.specs.Limits.{mostEvents, mostReadings, mostCommands, givenAt, loadsIn, withinLimits}
-use Rattle.state.proofs.LimitLaws.{Within, whole}
-use Rattle.tally.specs.Tally.{Tally, inBox, inBeacon, countsOf, eligibles, priority, recordFor, totalsFor}
+use Rattle.state.proofs.LimitLaws.{whole}
+use Rattle.tally.specs.Tally.{Tally, inBox, inBeacon, countsOf, eligibles, priority, totalsFor}
 use Rattle.tally.specs.View.{viewState}
 use Rattle.tally.specs.Demand3.{All}
 
@@ -43,14 +41,6 @@ pub record Inv (t : Tally) : Type 0 where
   pub limhi-most : t .settings .limhi ≤ slotCount
 
 -- ---- bounds
-
-pub all-append : {A : Type 0} (p : A → Bool) (l m : List A) → all p l ≡ true → all p m ≡ true → all p (l ++ m) ≡ true
-all-append p [] m h k = k
-all-append p (x ∷ xs) m h k = go (p x) (all p xs) h (all-append p xs m)
-  where
-    go : (a b : Bool) → (a && b) ≡ true → (b ≡ true → all p m ≡ true → all p (xs ++ m) ≡ true) → (a && all p (xs ++ m)) ≡ true
-    go true b q ih = ih q k
-    go false b q ih = q
 
 pub table-most : (n m : ℕ) (f : ℕ → ℕ) → ((i : ℕ) → f i ≤ m) → all (atMost m) (table n f) ≡ true
 unfolding table

@@ -1,15 +1,14 @@
 -- One call keeps what holds of the tally. Assumes nothing.
-use mathlib.Core.Path.{_≡_, refl, sym, ap, _∙_}
-use mathlib.Core.Bool.{Bool, true, false, _&&_, _||_, cond, false≢true}
+use mathlib.Core.Path.{_≡_, refl, sym, _∙_}
+use mathlib.Core.Bool.{Bool, true, false, _&&_, cond, false≢true}
 use mathlib.Core.List.{List, [], _∷_, _++_}
-use Prim.Native.Nat.{ℕ, zero, suc, _+_, _≤_, _<_, max}
-use native.Mathlib.Nat.{add-zero}
+use Prim.Native.Nat.{ℕ, _+_, _≤_, max}
 use native.Mathlib.Omega.{arith}
 use borrow.Author.Tests.{eqb-true, ltb-true, leb-true, leb-false, le-leb}
 use lib.Dec.{eqb, leb, ltb}
 use lib.ListN.{length, length-append}
 use Rattle.wire.specs.Lists.{all, EachBelow, joinIf, keep}
-use Rattle.wire.proofs.Lists.{and-left, and-right, and-split, keep-append, keep-one}
+use Rattle.wire.proofs.Lists.{and-split, all-append, keep-append, keep-one}
 use Rattle.settings.specs.declared.Settings.{Settings}
 use Rattle.settings.specs.Settings.{slotCount, settingsWithin}
 use Rattle.tables.specs.Tables.{tableBytes}
@@ -31,7 +30,7 @@ use Rattle.processor.specs.Close.{settingsAfterAll, addressAfterAll}
 use Rattle.processor.proofs.LineLaws.{refusal-room}
 use Rattle.tally.specs.Calls.{Lent, found, Call, event, reading, line, load, close, Typed}
 use Rattle.tally.specs.Tally.{Tally, eventNumberFor, readingNumberFor, loadWaitsFor, lineNumberFor, loadNumberFor, closeNumberFor, slotsFor, joined, read, waits, addressed, told, placed, ended, tnext}
-use Rattle.tally.proofs.Invariant.{all-snoc, all-append, Inv}
+use Rattle.tally.proofs.Invariant.{all-snoc, Inv}
 use Rattle.tally.proofs.Steps.{line-accepted}
 
 -- ---- events and readings

@@ -8,11 +8,11 @@ use native.Mathlib.Numerals.{add-one}
 use borrow.Author.Tests.{eqb-true, leb-true, le-leb, leb-false, ltb-true}
 use lib.Dec.{eqb, ltb}
 use lib.ListN.{length, getD, take, set}
-use lib.Seq.{ext-getD, take-suc-set}
+use lib.Seq.{take-suc-set}
 use Rattle.wire.specs.Lists.{all, keep, atMost, EachBelow}
-use Rattle.wire.proofs.Lists.{and-right, all-at}
-use Rattle.packet.specs.Lists.{table}
-use Rattle.packet.proofs.Runs.{table-at, length-table}
+use Rattle.wire.proofs.Lists.{and-right, all-at, all-append}
+use Rattle.wire.specs.Pieces.{table}
+use Rattle.wire.proofs.Pieces.{table-is}
 use Rattle.settings.specs.Settings.{slotCount}
 use Rattle.sort.specs.declared.sorting.Outcome.{Outcome}
 use Rattle.sort.specs.Samples.{Place, free, late, none, placedAfter, placeOf, priorityOf, eligible}
@@ -44,7 +44,7 @@ use Rattle.tally.specs.Calls.{Call, event, reading, line, load, close, W
 use Rattle.tally.specs.Tally.{holds}
 use Rattle.tally.proofs.Steps.{ClosedRecord, RefusedRecord}
 use Rattle.tally.proofs.CountLaws.{one, Differ, tallied-table, boxes-differ, beacons-differ}
-use Rattle.tally.proofs.Invariant.{table-most, all-append}
+use Rattle.tally.proofs.Invariant.{table-most}
 use Rattle.tally.proofs.Kept.{no-loads, loads-snoc, loads-one, refusal-free, settings-all, address-le, address-most}
 
 -- ---- readings
@@ -75,7 +75,7 @@ reading-limits s counts f r h =
 -- ---- events
 
 as-table : (xs : List ℕ) → xs ≡ table (length xs) (λ i. getD xs i 0)
-as-table xs = ext-getD 0 xs (table (length xs) (λ i. getD xs i 0)) (sym (length-table (λ i. getD xs i 0) (length xs))) (λ i h. sym (table-at (λ i. getD xs i 0) (length xs) i h))
+as-table xs = sym (table-is (λ i. getD xs i 0) (length xs) xs refl (λ i h. refl))
 
 one-le : (b : Bool) → one b ≤ 1
 one-le true = omega arith

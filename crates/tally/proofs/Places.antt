@@ -10,8 +10,8 @@ use lib.ListN.{length, getD, take, drop, length-map, length-append}
 use lib.Seq.{append-snoc, getD-append-seam}
 use Rattle.wire.specs.Lists.{joinIf, keep}
 use Rattle.settings.specs.Settings.{slotCount}
-use Rattle.sort.specs.declared.event.Event.{Event}
-use Rattle.sort.specs.Samples.{replacedBy, sampled, padded, slotsOf}
+use Rattle.wire.specs.Pieces.{padded}
+use Rattle.sort.specs.Samples.{replacedBy, sampled, slotsOf}
 use Rattle.sort.proofs.SampleLaws.{map-append, length-sampled}
 use Rattle.tally.specs.Tally.{Tally, isEligible, eligibles, priority, recordFor, slotsFor}
 use Rattle.tally.specs.Demand3.{All, Distinct, noEvent, eventAt, Samples}

@@ -1,9 +1,8 @@
 -- One call: what the processor answers is what the tally answers. Assumes nothing.
-use mathlib.Core.Path.{_≡_, refl, sym, ap, _∙_}
+use mathlib.Core.Path.{_≡_, refl, ap, _∙_}
 use mathlib.Core.Bool.{Bool, true, false, _&&_, cond, false≢true}
 use mathlib.Core.List.{List, [], _∷_, map}
-use Prim.Native.Nat.{ℕ, suc, _<_, min}
-use native.Mathlib.Omega.{arith}
+use Prim.Native.Nat.{ℕ, suc, min}
 use borrow.Author.Tests.{lt-ltb}
 use lib.Dec.{eqb}
 use lib.ListN.{length, length-map}
@@ -14,15 +13,14 @@ use Rattle.sort.specs.Samples.{sampled, slotsOf, filled}
 use Rattle.sort.proofs.EventLaws.{outcome-names}
 use Rattle.sort.proofs.RecordLaws.{event-nonzero}
 use Rattle.sort.proofs.SampleLaws.{length-sampled, filled-padded}
-use Rattle.command.specs.Echo.{refusedEcho}
 use Rattle.state.specs.State.{noCounts}
 use Rattle.processor.specs.Event.{eventAnswer}
 use Rattle.processor.specs.Reading.{readingAnswer}
 use Rattle.processor.specs.Line.{lineAnswer, lineEcho}
 use Rattle.processor.specs.Package.{packageAnswer, packageEcho}
 use Rattle.processor.specs.Close.{packetsOf, closeAnswer, closeOut}
-use Rattle.tally.specs.Calls.{Lent, own, other, found, isOwn, Call, event, reading, line, load, close, Reply, answered, echoed, closed, reply}
-use Rattle.tally.specs.Tally.{Tally, sortedBy, eligibles, priority, recordFor, slotsFor, totalsFor, countsOf, frameFor, closeNumberFor, closedReply, treply}
+use Rattle.tally.specs.Calls.{Lent, own, other, found, isOwn, event, reading, line, load, close, answered, closed, reply}
+use Rattle.tally.specs.Tally.{Tally, sortedBy, eligibles, priority, recordFor, slotsFor, totalsFor, countsOf, frameFor, closeNumberFor, treply}
 use Rattle.tally.specs.View.{viewState, view}
 use Rattle.tally.proofs.Invariant.{Inv}
 use Rattle.tally.proofs.Steps.{ClosedRecord, RefusedRecord, Owned, zero-places, event-number, reading-number, line-number, load-number, close-number}

@@ -1,50 +1,45 @@
 -- One call: the processor's world and answer are the tally's. Assumes nothing.
-use mathlib.Core.Path.{_≡_, refl, sym, ap, ap₂, _∙_}
+use mathlib.Core.Path.{_≡_, refl, sym, ap, _∙_}
 use mathlib.Core.Bool.{Bool, true, false, _&&_, cond, false≢true}
 use mathlib.Core.List.{List, [], _∷_, _++_, map}
-use Prim.Native.Nat.{ℕ, zero, suc, _+_, _-_, _%_, _≤_, _<_, min}
+use Prim.Native.Nat.{ℕ, zero, suc, _+_, _-_, _%_, _<_}
 use native.Mathlib.Numerals.{add-one}
 use native.Mathlib.Omega.{arith}
 use borrow.Author.Tests.{eqb-true, leb-false}
 use lib.Dec.{eqb, leb}
-use lib.ListN.{length, getD, set, take, replicate, length-append}
-use lib.Seq.{take-at, set-append-seam, append-snoc}
+use lib.ListN.{length, getD, replicate, length-append}
 use Rattle.wire.specs.Bytes.{total, zeros}
 use Rattle.wire.specs.Lists.{keep}
 use Rattle.wire.proofs.Bytes.{zeros-more}
 use Rattle.settings.specs.Settings.{slotCount}
-use Rattle.packet.specs.Lists.{table}
-use Rattle.packet.proofs.Runs.{table-at}
-use Rattle.sort.specs.declared.counts.Counts.{Counts}
+use Rattle.wire.specs.Pieces.{table, padded}
+use Rattle.wire.proofs.Pieces.{table-at, filled-set}
 use Rattle.sort.specs.declared.event.Event.{Event}
 use Rattle.sort.specs.Counts.{boxesOf, beaconsOf}
-use Rattle.sort.specs.Samples.{placedBy, replacedBy, sampled, padded, slotsOf, filled}
+use Rattle.sort.specs.Samples.{placedBy, slotsOf, filled}
 use Rattle.sort.specs.Sorting.{outcomeOf}
-use Rattle.sort.proofs.EventLaws.{outcome-names}
-use Rattle.sort.proofs.RecordLaws.{event-nonzero}
-use Rattle.sort.proofs.SampleLaws.{replaced-few, sampled-few, length-sampled, filled-padded}
-use Rattle.load.specs.Staging.{packageNumber, stagingAfter}
+use Rattle.sort.proofs.SampleLaws.{replaced-few, sampled-few}
+use Rattle.load.specs.Staging.{stagingAfter}
 use Rattle.command.specs.declared.command.Command.{Command}
 use Rattle.command.specs.declared.command.Line.{Line}
 use Rattle.command.specs.declared.command.Line.the-variants.{Empty, Wrong, Waits, LoadZero, LoadAt}
 use Rattle.command.specs.Echo.{echoBytes}
 use Rattle.command.specs.Grammar.{bytesOk, lineOf}
 use Rattle.state.specs.declared.State.{State}
-use Rattle.state.specs.declared.Waiting.{Waiting}
 use Rattle.state.specs.State.{noCounts, filler}
-use Rattle.state.specs.Limits.{mostCommands, isLoad, loadsIn}
+use Rattle.state.specs.Limits.{mostCommands, isLoad}
 use Rattle.processor.specs.declared.close.Closed.{Closed}
 use Rattle.processor.proofs.LineLaws.{refusal-room}
 use Rattle.processor.specs.Event.{eventNumber, stateTaken, eventAnswer, eventSlots}
 use Rattle.processor.specs.Event as call
-use Rattle.processor.specs.Reading.{readingNumber, addedTotals, stateRead, readingAnswer}
-use Rattle.processor.specs.Line.{refusalOf, lineCause, lineNumber, lineAnswer, lineEcho, pushed, stateAfter}
+use Rattle.processor.specs.Reading.{readingNumber, stateRead, readingAnswer}
+use Rattle.processor.specs.Line.{lineCause, lineNumber, lineAnswer, pushed, stateAfter}
 use Rattle.processor.specs.Line as calls
-use Rattle.processor.specs.Package.{isPlaced, packageCallNumber, stateStaged, packageAnswer, packageStaging, packageEcho}
-use Rattle.processor.specs.Close.{closeNumber, waitingOf, settingsAfterAll, tablesAfterAll, addressAfterAll, stateClosed, closeAnswer, closeTables, closeSlots, closeOut}
-use Rattle.tally.specs.Calls.{Lent, own, other, found, kept, isOwn, Call, event, reading, line, load, close, Reply, answered, echoed, closed, World, next, reply, owns}
-use Rattle.tally.specs.Tally.{Tally, sortedBy, holds, inBox, inBeacon, countsOf, eligibles, priority, recordFor, slotsFor, totalsFor, eventNumberFor, readingNumberFor, lineNumberFor, loadNumberFor, closeNumberFor, loadWaitsFor, joined, read, waits, told, placed, ended, tnext, treply}
-use Rattle.tally.specs.View.{filledUp, viewState, view}
+use Rattle.processor.specs.Package.{isPlaced, packageCallNumber, stateStaged, packageAnswer, packageStaging}
+use Rattle.processor.specs.Close.{closeNumber, waitingOf, settingsAfterAll, tablesAfterAll, addressAfterAll, stateClosed, closeAnswer, closeTables, closeSlots}
+use Rattle.tally.specs.Calls.{Lent, own, other, found, kept, isOwn, event, reading, line, load, close, World, next}
+use Rattle.tally.specs.Tally.{Tally, sortedBy, holds, inBox, inBeacon, countsOf, eligibles, priority, slotsFor, totalsFor, eventNumberFor, readingNumberFor, lineNumberFor, loadNumberFor, closeNumberFor, loadWaitsFor, joined, read, waits, told, placed, ended, tnext}
+use Rattle.tally.specs.View.{viewState, view}
 use Rattle.tally.proofs.CountLaws.{same-table}
 use Rattle.tally.proofs.EventStep.{event-state, event-slots}
 use Rattle.tally.proofs.Invariant.{Inv, view-within, take-filled}
@@ -122,13 +117,6 @@ reading-state t counts = λ i. record {
     sums k h =
         ap (λ (n : ℕ). n + getD counts k 0) (table-at (λ k. total (map (λ r. getD r k 0) (t .readings))) 8 k h)
         ∙ total-snoc (λ r. getD r k 0) (t .readings) counts
-
--- one more at the end of what is filled up
-filled-set : {A : Type 0} (n : ℕ) (f x : A) (l : List A) → length l < n → set (filledUp n f l) (length l) x ≡ filledUp n f (l ++ x ∷ [])
-filled-set n f x l h =
-    let e₁ : n - length l ≡ suc (n - suc (length l)) = omega arith in
-    let e₂ : n - (length l + 1) ≡ n - suc (length l) = omega arith in
-    rw (length-append, e₂, e₁, set-append-seam, append-snoc)
 
 waits-state : (t : Tally) (c : Command) → length (t .waiting) < mostCommands → pushed (viewState t) c ≡ viewState (waits t c)
 unfolding pushed viewState countsOf inBox inBeacon eligibles totalsFor

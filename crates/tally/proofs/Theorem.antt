@@ -1,6 +1,6 @@
 -- Demand 3, proved. Assumes nothing.
 use mathlib.Core.Path.{_≡_, refl, sym, ap, ap₂, _∙_, subst}
-use mathlib.Core.Bool.{Bool, true, false, _&&_, _||_, cond, false≢true}
+use mathlib.Core.Bool.{Bool, true, false, _&&_, cond, false≢true}
 use mathlib.Core.List.{List, [], _∷_}
 use Prim.Native.Nat.{ℕ, zero, suc, _+_}
 use native.Mathlib.Nat.{zero-add}
@@ -11,15 +11,13 @@ use lib.ListN.{length, replicate}
 use Rattle.wire.specs.Bytes.{total, zeros}
 use Rattle.wire.specs.Lists.{keep}
 use Rattle.wire.proofs.Lists.{and-left, and-right}
-use Rattle.packet.specs.Lists.{table}
-use Rattle.settings.specs.Settings.{slotCount, freshSettings}
+use Rattle.wire.specs.Pieces.{table}
+use Rattle.settings.specs.Settings.{freshSettings}
 use Rattle.sort.specs.declared.event.Event.{Event}
-use Rattle.sort.specs.Samples.{filled}
 use Rattle.sort.specs.Sorting.{outcomeOf}
-use Rattle.load.specs.Staging.{stagingBytes}
 use Rattle.state.specs.declared.State.{State}
 use Rattle.state.specs.State.{freshState, noCounts, filler}
-use Rattle.state.specs.Limits.{withinLimits, loadsIn}
+use Rattle.state.specs.Limits.{loadsIn}
 use Rattle.command.specs.declared.command.Line.{Line}
 use Rattle.command.specs.declared.command.Line.the-variants.{Empty, Wrong, Waits, LoadZero, LoadAt}
 use Rattle.command.specs.Grammar.{lineOf}
@@ -28,10 +26,10 @@ use Rattle.processor.specs.Line.{lineNumber, pushed, addressed, stateAfter, lin
 use Rattle.processor.specs.Reading.{readingNumber, stateRead, readingAnswer}
 use Rattle.processor.specs.Package.{isPlaced, packageCallNumber, stateStaged, packageAnswer, packageStaging}
 use Rattle.processor.specs.Close.{closedBy, closeNumber, stateClosed, closeAnswer, closeTables, closeSlots}
-use Rattle.tally.specs.Calls.{Lent, own, other, found, isOwn, Call, event, reading, line, load, close, Reply, answered, echoed, closed, numberOf, World, freshWorld, next, reply, replies, after, owns, Typed, Lawful}
-use Rattle.tally.specs.Tally.{Tally, freshTally, eventNumberFor, loadNumberFor, closeNumberFor, readingNumberFor, lineNumberFor, countsOf, eligibles, slotsFor, totalsFor, closedReply, tnext, treply, treplies, tafter}
+use Rattle.tally.specs.Calls.{Lent, own, other, found, isOwn, Call, event, reading, line, load, close, Reply, answered, closed, numberOf, World, freshWorld, next, reply, replies, after, owns, Lawful}
+use Rattle.tally.specs.Tally.{Tally, freshTally, eventNumberFor, loadNumberFor, closeNumberFor, countsOf, slotsFor, totalsFor, tnext, treply, treplies, tafter}
 use Rattle.tally.specs.View.{viewState, view}
-use Rattle.tally.specs.Demand3.{All, Balanced, Samples, Moment, Moments, ClosedBalanced, takenOne, takenCalls, takenIn, takenClosed, OtherIs, OthersKept, EachKept, Demand3, demand3}
+use Rattle.tally.specs.Demand3.{All, Balanced, Moment, Moments, ClosedBalanced, takenOne, takenCalls, takenIn, takenClosed, OtherIs, OthersKept, EachKept, demand3}
 use Rattle.tally.proofs.Invariant.{Inv, view-within}
 use Rattle.tally.proofs.Steps.{zero-places, ClosedRecord, RefusedRecord, Owned, event-number, load-number, close-number, event-next, reading-next, line-next, load-next, close-next, no-counts, no-slots, no-used, no-replaced}
 use Rattle.tally.proofs.Replies.{filled-slots, event-reply, reading-reply, line-reply, load-reply, close-reply}

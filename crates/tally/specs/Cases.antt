@@ -1,5 +1,5 @@
 -- The starred cases of document 01, "Numbers at the edges": "gathered as one list with one proof". Assumes nothing.
-use mathlib.Core.List.{List, [], _∷_, _++_, map}
+use mathlib.Core.List.{List, _++_, map}
 use Prim.Native.Nat.{ℕ}
 use lib.IntN.{ℤ, pos}
 use Rattle.sort.specs.Columns.{massColumn, columnCases}

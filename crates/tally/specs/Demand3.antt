@@ -9,7 +9,8 @@ use Rattle.wire.specs.Bytes.{total}
 use Rattle.settings.specs.Settings.{slotCount}
 use Rattle.sort.specs.declared.counts.Counts.{Counts}
 use Rattle.sort.specs.declared.event.Event.{Event}
-use Rattle.sort.specs.Samples.{padded, filled}
+use Rattle.wire.specs.Pieces.{padded}
+use Rattle.sort.specs.Samples.{filled}
 use Rattle.state.specs.Limits.{withinLimits}
 use Rattle.processor.specs.Event.{eventSlots}
 use Rattle.processor.specs.Package.{packageStaging}

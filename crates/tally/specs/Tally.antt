@@ -1,10 +1,10 @@
 -- The tally (document 01, "The tally of demand 3"): it works from the calls' arguments, and keeps the interval's events; every count,
 -- the samples and the packets are worked out from them. Assumes nothing.
-use mathlib.Core.Bool.{Bool, true, false, _||_, cond}
+use mathlib.Core.Bool.{Bool, false, _||_, cond}
 use mathlib.Core.List.{List, [], _∷_, _++_, map}
-use Prim.Native.Nat.{ℕ, _+_, _-_, _%_, min, max}
+use Prim.Native.Nat.{ℕ, _+_, _%_, min}
 use lib.Dec.{eqb, leb, ltb}
-use lib.ListN.{length, getD, replicate}
+use lib.ListN.{length, getD}
 use Rattle.wire.specs.Bytes.{total}
 use Rattle.wire.specs.Lists.{all, keep}
 use Rattle.settings.specs.declared.Settings.{Settings}
@@ -17,9 +17,9 @@ use Rattle.sort.specs.Counts.{boxesOf, beaconsOf}
 use Rattle.sort.specs.Event.{inRange}
 use Rattle.sort.specs.Samples.{eligible, priorityOf, eventRecord, slotsOf}
 use Rattle.sort.specs.Sorting.{outcomeOf}
-use Rattle.packet.specs.Lists.{table}
+use Rattle.wire.specs.Pieces.{table}
 use Rattle.packet.specs.Read.{recordGood}
-use Rattle.load.specs.Staging.{stagingBytes, placedBytes, packageNumber, stagingAfter, addressesAfter}
+use Rattle.load.specs.Staging.{stagingBytes, packageNumber, stagingAfter, addressesAfter}
 use Rattle.command.specs.declared.command.Command.{Command}
 use Rattle.command.specs.declared.command.Line.{Line}
 use Rattle.command.specs.declared.command.Line.the-variants.{Empty, Wrong, Waits, LoadZero, LoadAt}

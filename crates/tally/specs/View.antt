@@ -1,19 +1,13 @@
 -- The processor's state and buffers, as the tally has them. Assumes nothing.
-use mathlib.Core.List.{List, _++_}
-use Prim.Native.Nat.{ℕ, _-_}
-use lib.ListN.{length, replicate}
+use lib.ListN.{length}
+use Rattle.wire.specs.Pieces.{filledUp}
 use Rattle.settings.specs.Settings.{slotCount}
 use Rattle.sort.specs.Samples.{placedBy}
 use Rattle.state.specs.declared.State.{State}
-use Rattle.state.specs.declared.Waiting.{Waiting}
 use Rattle.state.specs.State.{filler}
 use Rattle.state.specs.Limits.{mostCommands}
 use Rattle.tally.specs.Calls.{World}
 use Rattle.tally.specs.Tally.{Tally, frameFor, countsOf, priority, recordFor, eligibles, totalsFor, slotsFor}
-
--- the list with the given element behind, n in all
-abbrev pub filledUp : {A : Type 0} → ℕ → A → List A → List A
-filledUp n x l = l ++ replicate (n - length l) x
 
 unfoldable pub viewState : Tally → State
 viewState t = record {

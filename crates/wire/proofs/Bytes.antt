@@ -1,13 +1,13 @@
 -- Laws of runs of bytes and of the numbers in them. Assumes nothing.
 use mathlib.Core.Path.{_≡_, refl, sym, ap, _∙_}
 use mathlib.Core.List.{List, [], _∷_, _++_, append-assoc, append-nil}
-use Prim.Native.Nat.{ℕ, zero, suc, _+_, _-_, _*_, _/_, _%_, _≤_, _<_}
+use Prim.Native.Nat.{ℕ, _+_, _-_, _*_, _/_, _%_, _≤_, _<_}
 use native.Mathlib.Omega.{arith}
 use native.Mathlib.Numerals.{add-one}
-use lib.ListN.{length, take, drop, getD, set, replicate, length-append, length-take, length-drop, length-replicate, replicate-append-replicate, drop-of-length-le}
+use lib.ListN.{length, take, drop, getD, length-append, length-take, length-drop, replicate-append-replicate, drop-of-length-le}
 use lib.Seq.{sets, sets-eq, length-take-le, take-at, drop-at, drop-cons, take-suc, drop-drop, paste-zero}
 use borrow.Rule.Slice.PartMut.{putMid, post-is}
-use Rattle.wire.specs.Bytes.{put, total, words, be16, be24, be32, zeros}
+use Rattle.wire.specs.Bytes.{put, total, words, be32, zeros}
 
 -- ---- a run put into a list
 

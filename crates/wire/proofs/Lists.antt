@@ -1,7 +1,8 @@
 -- Laws of the tests and counts on lists. Assumes nothing.
 use mathlib.Core.Path.{_≡_, refl, sym, ap, _∙_}
-use mathlib.Core.Bool.{Bool, true, false, _&&_, cond, false≢true}
-use mathlib.Core.List.{List, [], _∷_, _++_}
+use mathlib.Core.Bool.{Bool, true, false, _&&_, _||_, cond, false≢true}
+use mathlib.Core.List.{List, [], _∷_, _++_, map}
+use mathlib.Core.Logic.{_⊎_, inl, inr}
 use Prim.Native.Nat.{ℕ, zero, suc, _+_, _≤_, _<_, suc-le-suc}
 use native.Mathlib.Nat.{le-refl, le-trans, le-suc}
 use native.Mathlib.Numerals.{add-one}
@@ -66,6 +67,27 @@ and-right false b h = absurd (false≢true h)
 pub and-split : (a b : Bool) → (a && b) ≡ true → (a ≡ true) × (b ≡ true)
 and-split a b h = (and-left a b h, and-right a b h)
 
+-- a test that one of two makes true
+pub or-split : (a b : Bool) → (a || b) ≡ true → (a ≡ true) ⊎ (b ≡ true)
+or-split true b h = inl refl
+or-split false b h = inr h
+
+-- where each passes the test, so does the one at i
+pub all-get : {A : Type 0} (p : A → Bool) (xs : List A) (d : A) (i : ℕ) → i < length xs → all p xs ≡ true → p (getD xs i d) ≡ true
+all-get p [] d i h e = absurd (omega arith)
+all-get p (x ∷ xs) d zero h e = and-left (p x) (all p xs) e
+all-get p (x ∷ xs) d (suc i) h e = all-get p xs d i (omega arith) (and-right (p x) (all p xs) e)
+
+pub all-append : {A : Type 0} (p : A → Bool) (l m : List A) → all p l ≡ true → all p m ≡ true → all p (l ++ m) ≡ true
+all-append p [] m h k = k
+all-append p (x ∷ xs) m h k = rw (and-left (p x) (all p xs) h) (all-append p xs m (and-right (p x) (all p xs) h) k)
+
+-- the element at i of what a function makes of each
+pub map-at : (f : ℕ → ℕ) (xs : List ℕ) (i : ℕ) → i < length xs → getD (map f xs) i 0 ≡ f (getD xs i 0)
+map-at f [] i h = absurd (omega arith)
+map-at f (x ∷ xs) zero h = refl
+map-at f (x ∷ xs) (suc i) h = map-at f xs i (omega arith)
+
 -- where each number is at most m, so is the one at k
 pub all-at : (m : ℕ) (xs : List ℕ) (k : ℕ) → all (atMost m) xs ≡ true → getD xs k 0 ≤ m
 all-at m [] k h = omega arith
@@ -102,6 +124,11 @@ each-bump n xs i b k = go (ℕ-discrete k i) (decLt i (length xs))
     go (no d) e = rw (getD-set-other xs i k (getD xs i 0 + 1) 0 d) (omega (arith, b k))
     go (yes q) (yes h) = rw (q, getD-set-same xs i (getD xs i 0 + 1) 0 h) (omega (arith, b i))
     go (yes q) (no h) = rw (set-out xs i (getD xs i 0 + 1) (omega arith)) (omega (arith, b k))
+
+pub each-append : (n : ℕ) (a b : List ℕ) → EachBelow n a → EachBelow n b → EachBelow n (a ++ b)
+each-append n [] b ha hb k = hb k
+each-append n (x ∷ a) b ha hb zero = ha 0
+each-append n (x ∷ a) b ha hb (suc k) = each-append n a b (λ i. ha (suc i)) hb k
 
 -- zeros are below any bound
 pub each-zeros : (b n : ℕ) → 0 < b → EachBelow b (replicate n 0)

@@ -1,15 +1,10 @@
 use Prim.Native.Nat.{_≤_, _-_}
-use native.Mathlib.Omega.{arith}
 use lib.ListN.{length}
 use mathlib.Core.Path.{_≡_}
 use Rattle.tables.specs.Tables.{tableBytes}
 use borrow.Author.Needs.{needs}
 use Rattle.sort_cases.proofs.fill.Statement.{statement}
 use Rattle.sort_cases.proofs.fill.Tie as tie
-use Rattle.sort_cases.proofs.fill.Reads as reads
-use Rattle.sort_cases.proofs.fill.Lts as lts
-use Rattle.sort_cases.proofs.case_word.Reads as case-word-reads
-use Rattle.wire.proofs.write.put_u24.Reads as put-u24-reads
 
 abbrev Inv-loop : tie.InvT-loop
 Inv-loop tables₀ i₀ tables i = (i ≤ 20995) × (length tables ≡ tableBytes)
@@ -17,39 +12,30 @@ Inv-loop tables₀ i₀ tables i = (i ≤ 20995) × (length tables ≡ tableByte
 abbrev μ-loop : tie.MeasureT-loop
 μ-loop tables₀ i₀ tables i = 20995 - i
 
--- src/main.rt:73:5
 loop-holds : tie.Need-loop-holds Inv-loop μ-loop
 loop-holds c = search needs
 
--- src/main.rt:74:38
 mul-put-u24 : tie.Need-mul-put-u24 Inv-loop μ-loop
 mul-put-u24 c = search needs
 
--- src/main.rt:74:45
 case-word-requires : tie.Need-case-word-requires Inv-loop μ-loop
 case-word-requires c κs = search needs
 
--- src/main.rt:74:9
 put-u24-requires : tie.Need-put-u24-requires Inv-loop μ-loop
 put-u24-requires c κs = search needs
 
--- src/main.rt:75:9
 add-i : tie.Need-add-i Inv-loop μ-loop
 add-i c = search needs
 
--- src/main.rt:73:5
 loop-less : tie.Need-loop-less Inv-loop μ-loop
 loop-less c = search needs
 
--- src/main.rt:73:5
 loop-again : tie.Need-loop-again Inv-loop μ-loop
 loop-again c = search needs
 
--- src/main.rt:68:1
 same-length : tie.Need-same-length Inv-loop μ-loop
 same-length c = search needs
 
--- src/main.rt:68:1
 returns : tie.Need-returns Inv-loop μ-loop
 returns c = search needs
 

@@ -4,7 +4,8 @@ use native.Mathlib.Omega.{arith}
 use lib.ListN.{length, drop}
 use denote.Ref.{now}
 use Rattle.command.specs.Grammar.{isDigit, hexBehind, hexValue}
-use Rattle.command.proofs.DigitLaws.{all-get, hex-step, hex-end, hex-room}
+use Rattle.wire.proofs.Lists.{all-get}
+use Rattle.command.proofs.DigitLaws.{hex-step, hex-end, hex-room}
 use borrow.Author.Needs.{needs}
 use Rattle.command.proofs.argument.value.Statement.{statement}
 use Rattle.command.proofs.argument.value.Tie as tie
@@ -28,7 +29,7 @@ digit-value-requires : tie.Need-digit-value-requires Inv-loop μ-loop
 digit-value-requires c κs =
     let l = c .before .before in
     let s = l .before .before in
-    all-get isDigit (now (s .args .w)) (l .loop .i) (s .pre .1) (omega arith)
+    all-get isDigit (now (s .args .w)) 0 (l .loop .i) (omega arith) (s .pre .1)
 
 add-n : tie.Need-add-n Inv-loop μ-loop
 add-n c =

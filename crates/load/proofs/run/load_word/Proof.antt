@@ -5,7 +5,7 @@ use native.Mathlib.Omega.{arith}
 use lib.ListN.{take, drop}
 use denote.Ref.{now}
 use Rattle.wire.specs.Bytes.{put, zeros}
-use Rattle.load.specs.Load.{padded}
+use Rattle.wire.specs.Pieces.{padded}
 use Rattle.load.proofs.ListLaws.{part-of-reach}
 use borrow.Author.Needs.{needs}
 use Rattle.load.proofs.run.load_word.Statement.{statement}

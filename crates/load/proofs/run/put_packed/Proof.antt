@@ -5,6 +5,7 @@ use native.Mathlib.Omega.{arith}
 use lib.ListN.{length, length-append, length-replicate}
 use denote.Ref.{now}
 use Rattle.wire.specs.Bytes.{put, zeros}
+use Rattle.wire.specs.Pieces.{padded}
 use Rattle.wire.proofs.Bytes.{then}
 use borrow.Author.Needs.{needs}
 use Rattle.load.proofs.run.put_packed.Statement.{statement}
@@ -35,6 +36,7 @@ same-length : tie.Need-same-length
 same-length c = search needs
 
 returns : tie.Need-returns
+unfolding padded
 returns c =
     let c3 = c .before .before in
     let c2 = c3 .before .before .before .before in

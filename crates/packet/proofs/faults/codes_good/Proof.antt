@@ -4,7 +4,7 @@ use mathlib.Core.Path.{_≡_, ap, _∙_}
 use native.Mathlib.Omega.{arith}
 use Rattle.packet.specs.Rate.{codeValid}
 use Rattle.packet.specs.Read.{codesGood}
-use Rattle.packet.proofs.Runs.{each-start, each-turn, each-end}
+use Rattle.wire.proofs.Pieces.{each-start, each-turn, each-end}
 use Rattle.packet.proofs.faults.codes_good.Statement.{statement}
 use Rattle.packet.proofs.faults.codes_good.Tie as tie
 

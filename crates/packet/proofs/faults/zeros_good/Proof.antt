@@ -3,7 +3,7 @@ use Prim.Native.Nat.{_≤_, _-_}
 use mathlib.Core.Path.{_≡_, refl}
 use native.Mathlib.Omega.{arith}
 use Rattle.packet.specs.Read.{zerosGood}
-use Rattle.packet.proofs.Runs.{each-start, each-turn, each-end}
+use Rattle.wire.proofs.Pieces.{each-start, each-turn, each-end}
 use Rattle.packet.proofs.faults.zeros_good.Statement.{statement}
 use Rattle.packet.proofs.faults.zeros_good.Tie as tie
 

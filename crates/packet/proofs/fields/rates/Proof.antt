@@ -1,6 +1,6 @@
 use borrow.Author.Needs.{needs}
 use Rattle.packet.specs.Rate.{leastCount, codeValid}
-use Rattle.packet.proofs.Runs.{table-none, table-turn, table-end, each-at}
+use Rattle.wire.proofs.Pieces.{table-none, table-turn, table-end, each-at}
 use Prim.Native.Nat.{_≤_, _-_}
 use mathlib.Core.Path.{_≡_, refl, ap, _∙_}
 use native.Mathlib.Omega.{arith}

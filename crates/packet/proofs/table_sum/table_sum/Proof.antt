@@ -5,9 +5,9 @@ use native.Mathlib.Omega.{arith}
 use denote.Ref.{now}
 use Rattle.wire.specs.Bytes.{total}
 use Rattle.tables.specs.Tables.{first, tableWords, wordAt}
-use Rattle.packet.specs.Lists.{table}
+use Rattle.wire.specs.Pieces.{table}
 use Rattle.packet.specs.TableSum.{tableSum}
-use Rattle.packet.proofs.Runs.{total-more}
+use Rattle.wire.proofs.Pieces.{total-more}
 use Rattle.packet.proofs.table_sum.table_sum.Statement.{statement}
 use Rattle.packet.proofs.table_sum.table_sum.Tie as tie
 

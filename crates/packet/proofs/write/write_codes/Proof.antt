@@ -9,7 +9,7 @@ use denote.Ref.{now}
 use Rattle.wire.specs.Bytes.{put, be16}
 use Rattle.wire.proofs.Bytes.{then, put-nil}
 use Rattle.packet.specs.Packet.{codes}
-use Rattle.packet.specs.Lists.{runs}
+use Rattle.wire.specs.Pieces.{runs}
 use Rattle.packet.proofs.Written.{codes-take, length-codes-take}
 use Rattle.packet.proofs.write.write_codes.Statement.{statement}
 use Rattle.packet.proofs.write.write_codes.Tie as tie

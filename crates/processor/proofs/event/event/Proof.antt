@@ -1,21 +1,14 @@
-use mathlib.Core.Path.{_≡_, sym, ap, _∙_}
-use borrow.Author.Tests.{eq-eqb, ne-eqb}
-use denote.Ref.{now}
+use mathlib.Core.Path.{sym, _∙_}
+use borrow.Author.Tests.{ne-eqb}
 use Rattle.processor.specs.Event.{eventAnswer, eventSlots}
 use Rattle.processor.proofs.EventLaws.{event-takes}
 use borrow.Author.Needs.{needs}
 use Rattle.processor.proofs.event.event.Statement.{statement}
 use Rattle.processor.proofs.event.event.Tie as tie
-use Rattle.processor.proofs.event.event.Reads as reads
-use Rattle.processor.proofs.event.event.Lts as lts
-use Rattle.processor.proofs.event.event_number.Reads as event-number-reads
-use Rattle.processor.proofs.event.take_event.Reads as take-event-reads
 
--- src/event.rt:86:9
 event-number-requires : tie.Need-event-number-requires
 event-number-requires c κs = search needs
 
--- src/event.rt:88:9
 returns : tie.Need-returns
 unfolding eventAnswer eventSlots
 returns c =
@@ -23,7 +16,6 @@ returns c =
     let e = c .before .event-number .ensures in
     (simp (sym e, n), simp (sym e, n))
 
--- src/event.rt:90:9
 take-event-requires : tie.Need-take-event-requires
 take-event-requires c κs =
     let n = c .before .before in
@@ -31,11 +23,9 @@ take-event-requires c κs =
     let t = event-takes (s .args .state) _ _ (s .args .event) (sym (n .event-number .ensures) ∙ c .before .if1 .left) in
     ((t .tables-are, t .slots-are), (t .limits, (t .range, t .room)))
 
--- src/event.rt:82:1
 same-length : tie.Need-same-length
 same-length c = search needs
 
--- src/event.rt:82:1
 returns-2 : tie.Need-returns-2
 unfolding eventAnswer eventSlots
 returns-2 c =

@@ -1,35 +1,24 @@
-use mathlib.Core.Path.{_≡_, sym, ap, _∙_, subst}
-use native.Mathlib.Omega.{arith}
+use mathlib.Core.Path.{sym, _∙_}
 use borrow.Author.Tests.{eq-eqb, ne-eqb, lt-ltb, le-ltb, not-true, not-false}
-use denote.Ref.{now}
 use Rattle.processor.specs.Event.{eventNumber}
 use borrow.Author.Needs.{needs}
 use Rattle.processor.proofs.event.event_number.Statement.{statement}
 use Rattle.processor.proofs.event.event_number.Tie as tie
-use Rattle.processor.proofs.event.event_number.Reads as reads
-use Rattle.processor.proofs.event.event_number.Lts as lts
-use Rattle.sort.proofs.event.in_range.Reads as in-range-reads
-use Rattle.state.proofs.limits.within_limits.Reads as within-limits-reads
 
--- src/event.rt:24:9
 returns : tie.Need-returns
 unfolding eventNumber
 returns c = simp (ne-eqb _ _ (c .if1 .taken))
 
--- src/event.rt:26:17
 cast-if2 : tie.Need-cast-if2
 cast-if2 c = search needs
 
--- src/event.rt:27:9
 returns-2 : tie.Need-returns-2
 unfolding eventNumber
 returns-2 c = simp (eq-eqb _ _ (c .before .if1 .left), ne-eqb _ _ (c .if2 .taken))
 
--- src/event.rt:29:9
 within-limits-requires : tie.Need-within-limits-requires
 within-limits-requires c κs = search needs
 
--- src/event.rt:30:9
 returns-3 : tie.Need-returns-3
 unfolding eventNumber
 returns-3 c =
@@ -37,11 +26,9 @@ returns-3 c =
     let l = sym (w .within-limits .ensures) ∙ not-true _ (c .if3 .taken) in
     simp (eq-eqb _ _ (w .before .before .if1 .left), eq-eqb _ _ (w .before .if2 .left), l)
 
--- src/event.rt:32:9
 in-range-requires : tie.Need-in-range-requires
 in-range-requires c κs = search needs
 
--- src/event.rt:33:9
 returns-4 : tie.Need-returns-4
 unfolding eventNumber
 returns-4 c =
@@ -51,7 +38,6 @@ returns-4 c =
     let g = sym (r .in-range .ensures) ∙ not-true _ (c .if4 .taken) in
     simp (eq-eqb _ _ (w .before .before .if1 .left), eq-eqb _ _ (w .before .if2 .left), l, g)
 
--- src/event.rt:20:1
 returns-5 : tie.Need-returns-5
 unfolding eventNumber
 returns-5 c =
@@ -62,7 +48,6 @@ returns-5 c =
     let g = sym (r .in-range .ensures) ∙ not-false _ (f .if4 .left) in
     simp (eq-eqb _ _ (w .before .before .if1 .left), eq-eqb _ _ (w .before .if2 .left), l, g, lt-ltb _ _ (c .if5 .taken))
 
--- src/event.rt:20:1
 returns-6 : tie.Need-returns-6
 unfolding eventNumber
 returns-6 c =

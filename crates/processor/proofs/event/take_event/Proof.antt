@@ -1,6 +1,4 @@
-use mathlib.Core.Path.{_≡_, sym, ap, _∙_, subst}
-use native.Mathlib.Omega.{arith}
-use borrow.Author.Tests.{eq-eqb, ne-eqb, lt-ltb, le-ltb, not-true, not-false}
+use mathlib.Core.Path.{sym, subst}
 use denote.Ref.{now}
 use Rattle.sort.specs.Counts.{OutcomeNames}
 use Rattle.sort.proofs.EventLaws.{outcome-names}
@@ -9,17 +7,10 @@ use Rattle.processor.specs.Event.{stateTaken}
 use borrow.Author.Needs.{needs}
 use Rattle.processor.proofs.event.take_event.Statement.{statement}
 use Rattle.processor.proofs.event.take_event.Tie as tie
-use Rattle.processor.proofs.event.take_event.Reads as reads
-use Rattle.processor.proofs.event.take_event.Lts as lts
-use Rattle.processor.proofs.event.place_record.Reads as place-record-reads
-use Rattle.sort.proofs.counts.counted.Reads as counted-reads
-use Rattle.sort.proofs.sorting.outcome_of.Reads as outcome-of-reads
 
--- src/event.rt:70:9
 outcome-of-requires : tie.Need-outcome-of-requires
 outcome-of-requires c κs = search needs
 
--- src/event.rt:71:9
 names : (k : tie.After-outcome-of) → OutcomeNames (k .outcome-of .result)
 names k =
     let s = k .before .before .before in
@@ -30,7 +21,6 @@ place-record-requires c κs =
     let s = c .before .before .before .before in
     (s .pre .0 .1, (s .pre .1 .0, (s .pre .1 .1 .0, names (c .before))))
 
--- src/event.rt:72:9
 counted-requires : tie.Need-counted-requires
 counted-requires c κs =
     let o = c .before .before .before .before in
@@ -38,15 +28,12 @@ counted-requires c κs =
     let w = within (s .args .s) (s .pre .1 .0) in
     (names o, (boxes-below (s .args .s) w (s .pre .1 .1 .1), beacons-below (s .args .s) w (s .pre .1 .1 .1)))
 
--- src/event.rt:74:15
 add-t : tie.Need-add-t
 add-t c = search needs
 
--- src/event.rt:63:1
 same-length : tie.Need-same-length
 same-length c = search needs
 
--- src/event.rt:63:1
 returns : tie.Need-returns
 unfolding stateTaken
 returns c =

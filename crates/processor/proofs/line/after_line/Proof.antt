@@ -1,31 +1,21 @@
-use mathlib.Core.Path.{_≡_, sym, ap, _∙_, subst}
+use mathlib.Core.Path.{sym, ap, _∙_}
 use native.Mathlib.Omega.{arith}
-use Rattle.command.specs.declared.command.Line.{Line}
-use Rattle.command.specs.Grammar.{lineOf}
 use Rattle.state.proofs.LimitLaws.{within}
 use Rattle.processor.proofs.LineLaws.{isCommand, accepted-room}
 use Rattle.processor.specs.Line.{stateAfter}
 use borrow.Author.Needs.{needs}
 use Rattle.processor.proofs.line.after_line.Statement.{statement}
 use Rattle.processor.proofs.line.after_line.Tie as tie
-use Rattle.processor.proofs.line.after_line.Reads as reads
-use Rattle.processor.proofs.line.after_line.Lts as lts
-use Rattle.processor.proofs.line.push.Reads as push-reads
-use Rattle.processor.proofs.line.set_addresses.Reads as set-addresses-reads
 
--- src/line.rt:83:24
 enum-told : tie.Need-enum-told
 enum-told c = search needs
 
--- src/line.rt:84:24
 enum-told-2 : tie.Need-enum-told-2
 enum-told-2 c = search needs
 
--- src/line.rt:85:21
 enum-known-l : tie.Need-enum-known-l
 enum-known-l c = search needs
 
--- src/line.rt:85:27
 push-requires : tie.Need-push-requires
 push-requires c κs =
     let s = c .before .before .before in
@@ -33,47 +23,38 @@ push-requires c κs =
     let w = within (s .args .s) (s .pre .0) in
     (omega (arith, w .waiters-most), r)
 
--- src/line.rt:86:27
 enum-told-3 : tie.Need-enum-told-3
 enum-told-3 c = search needs
 
--- src/line.rt:86:27
 set-addresses-requires : tie.Need-set-addresses-requires
 set-addresses-requires c κs =
     let s = c .before .before in
     accepted-room (s .args .s) (s .args .l) (s .pre .1) (ap isCommand (c .enum-told3 .given .1))
 
--- src/line.rt:87:22
 enum-known-l-2 : tie.Need-enum-known-l-2
 enum-known-l-2 c = search needs
 
--- src/line.rt:87:28
 set-addresses-requires-2 : tie.Need-set-addresses-requires-2
 set-addresses-requires-2 c κs =
     let s = c .before .before .before in
     accepted-room (s .args .s) (s .args .l) (s .pre .1) (ap isCommand (c .before .l2 .given .1))
 
--- src/line.rt:77:1
 returns : tie.Need-returns
 unfolding stateAfter
 returns c = sym (ap (stateAfter (c .before .before .args .s)) (c .enum-told .given .1))
 
--- src/line.rt:77:1
 returns-2 : tie.Need-returns-2
 unfolding stateAfter
 returns-2 c = sym (ap (stateAfter (c .before .before .args .s)) (c .enum-told2 .given .1))
 
--- src/line.rt:77:1
 returns-3 : tie.Need-returns-3
 unfolding stateAfter
 returns-3 c = c .push .ensures ∙ sym (ap (stateAfter (c .before .before .before .before .args .s)) (c .before .before .l .given .1))
 
--- src/line.rt:77:1
 returns-4 : tie.Need-returns-4
 unfolding stateAfter
 returns-4 c = c .set-addresses .ensures ∙ sym (ap (stateAfter (c .before .before .before .args .s)) (c .before .enum-told3 .given .1))
 
--- src/line.rt:77:1
 returns-5 : tie.Need-returns-5
 unfolding stateAfter
 returns-5 c =

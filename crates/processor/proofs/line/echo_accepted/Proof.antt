@@ -1,39 +1,28 @@
-use borrow.Author.Tests.{eq-eqb, ne-eqb, lt-ltb, le-ltb, le-leb, lt-leb, not-true, not-false}
+use borrow.Author.Tests.{eq-eqb, ne-eqb}
 use borrow.Author.Needs.{needs}
 use Rattle.processor.proofs.line.echo_accepted.Statement.{statement}
 use Rattle.processor.proofs.line.echo_accepted.Tie as tie
-use Rattle.processor.proofs.line.echo_accepted.Reads as reads
-use Rattle.processor.proofs.line.echo_accepted.Lts as lts
-use Rattle.command.proofs.echo.write_accepted.Reads as write-accepted-reads
-use Rattle.command.proofs.echo.write_prompt.Reads as write-prompt-reads
 
--- src/line.rt:98:9
 write-prompt-requires : tie.Need-write-prompt-requires
 write-prompt-requires c κs = search needs
 
--- src/line.rt:100:54
 cast-write-accepted : tie.Need-cast-write-accepted
 cast-write-accepted c = search needs
 
--- src/line.rt:100:9
 write-accepted-requires : tie.Need-write-accepted-requires
 write-accepted-requires c κs = search needs
 
--- src/line.rt:92:1
 same-length : tie.Need-same-length
 same-length c = search needs
 
--- src/line.rt:92:1
 returns : tie.Need-returns
 returns c =
     let p = c .before .before in
     simp (eq-eqb _ _ (p .before .before .if1 .taken)) (p .write-prompt .ensures)
 
--- src/line.rt:92:1
 same-length-2 : tie.Need-same-length-2
 same-length-2 c = search needs
 
--- src/line.rt:92:1
 returns-2 : tie.Need-returns-2
 returns-2 c =
     let p = c .before .before in

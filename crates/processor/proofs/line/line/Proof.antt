@@ -1,27 +1,19 @@
 use denote.Ref.{now}
-use mathlib.Core.Path.{_≡_, sym, _∙_}
+use mathlib.Core.Path.{sym, _∙_}
 use borrow.Author.Tests.{eq-eqb, ne-eqb, not-true, not-false}
 use Rattle.processor.specs.Line.{lineNumber, lineAnswer, lineEcho}
 use Rattle.processor.proofs.LineLaws.{line-short}
 use borrow.Author.Needs.{needs}
 use Rattle.processor.proofs.line.line.Statement.{statement}
 use Rattle.processor.proofs.line.line.Tie as tie
-use Rattle.processor.proofs.line.line.Reads as reads
-use Rattle.processor.proofs.line.line.Lts as lts
-use Rattle.command.proofs.line.bytes_ok.Reads as bytes-ok-reads
-use Rattle.processor.proofs.line.take_line.Reads as take-line-reads
-use Rattle.state.proofs.limits.within_limits.Reads as within-limits-reads
 
--- src/line.rt:132:9
 returns : tie.Need-returns
 unfolding lineAnswer lineEcho lineNumber
 returns c = let e = ne-eqb _ _ (c .if1 .taken) in (simp e, simp e)
 
--- src/line.rt:137:9
 within-limits-requires : tie.Need-within-limits-requires
 within-limits-requires c κs = search needs
 
--- src/line.rt:138:9
 returns-2 : tie.Need-returns-2
 unfolding lineAnswer lineEcho lineNumber
 returns-2 c =
@@ -29,11 +21,9 @@ returns-2 c =
     let w = sym (c .before .within-limits .ensures) ∙ not-true _ (c .if2 .taken) in
     (simp (e, w), simp (e, w))
 
--- src/line.rt:143:9
 bytes-ok-requires : tie.Need-bytes-ok-requires
 bytes-ok-requires c κs = search needs
 
--- src/line.rt:144:9
 returns-3 : tie.Need-returns-3
 unfolding lineAnswer lineEcho lineNumber
 returns-3 c =
@@ -44,7 +34,6 @@ returns-3 c =
     let k = sym (b .bytes-ok .ensures) ∙ not-true _ (c .if3 .taken) in
     (simp (e, l, k), simp (e, l, k))
 
--- src/line.rt:149:5
 take-line-requires : tie.Need-take-line-requires
 take-line-requires c κs =
     let b = c .before .before in
@@ -53,11 +42,9 @@ take-line-requires c κs =
     let k = sym (b .bytes-ok .ensures) ∙ not-false _ (c .before .if3 .left) in
     ((w .before .if1 .left, line-short (now (w .before .before .before .before .args .line)) k), (l, k))
 
--- src/line.rt:127:1
 same-length : tie.Need-same-length
 same-length c = search needs
 
--- src/line.rt:127:1
 returns-4 : tie.Need-returns-4
 returns-4 c = search needs
 

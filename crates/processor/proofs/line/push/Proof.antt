@@ -3,26 +3,19 @@ use Rattle.processor.specs.Line.{pushed}
 use borrow.Author.Needs.{needs}
 use Rattle.processor.proofs.line.push.Statement.{statement}
 use Rattle.processor.proofs.line.push.Tie as tie
-use Rattle.processor.proofs.line.push.Reads as reads
-use Rattle.processor.proofs.line.push.Lts as lts
 
--- src/line.rt:58:5
 mul-t6 : tie.Need-mul-t6
 mul-t6 c = search needs
 
--- src/line.rt:58:5
 element-set-from-t : tie.Need-element-set-from-t
 element-set-from-t c = search needs
 
--- src/line.rt:59:17
 add-t : tie.Need-add-t
 add-t c = search needs
 
--- src/line.rt:60:18
 add-t-2 : tie.Need-add-t-2
 add-t-2 c = search needs
 
--- src/line.rt:52:1
 returns : tie.Need-returns
 unfolding pushed
 returns c = refl

@@ -3,14 +3,10 @@ use Rattle.processor.specs.Line.{addressed}
 use borrow.Author.Needs.{needs}
 use Rattle.processor.proofs.line.set_addresses.Statement.{statement}
 use Rattle.processor.proofs.line.set_addresses.Tie as tie
-use Rattle.processor.proofs.line.set_addresses.Reads as reads
-use Rattle.processor.proofs.line.set_addresses.Lts as lts
 
--- src/line.rt:72:18
 add-t : tie.Need-add-t
 add-t c = search needs
 
--- src/line.rt:65:1
 returns : tie.Need-returns
 unfolding addressed
 returns c = refl

@@ -1,31 +1,20 @@
 use lib.Dec.{leb}
-use mathlib.Core.Path.{_≡_, sym, ap, _∙_, subst}
+use mathlib.Core.Path.{_≡_, sym, ap, _∙_}
 use native.Mathlib.Omega.{arith}
-use borrow.Author.Tests.{eq-eqb, ne-eqb, lt-ltb, le-ltb, le-leb, lt-leb, not-true, not-false}
-use Rattle.command.specs.declared.command.Line.{Line}
+use borrow.Author.Tests.{ne-eqb}
 use Rattle.command.specs.Grammar.{lineOf}
 use Rattle.state.proofs.LimitLaws.{within}
 use Rattle.processor.proofs.LineLaws.{cause-five, line-cause}
 use lib.ListN.{length}
 use denote.Ref.{now}
-use Rattle.processor.specs.Line.{loadWaits, commandsFull, lineCause, lineNumber, stateAfter, lineAnswer, lineEcho}
+use Rattle.processor.specs.Line.{loadWaits, commandsFull, lineCause, lineNumber, lineAnswer, lineEcho}
 use borrow.Author.Needs.{needs}
 use Rattle.processor.proofs.line.take_line.Statement.{statement}
 use Rattle.processor.proofs.line.take_line.Tie as tie
-use Rattle.processor.proofs.line.take_line.Reads as reads
-use Rattle.processor.proofs.line.take_line.Lts as lts
-use Rattle.command.proofs.echo.write_refused.Reads as write-refused-reads
-use Rattle.command.proofs.line.parse.Reads as parse-reads
-use Rattle.processor.proofs.line.after_line.Reads as after-line-reads
-use Rattle.processor.proofs.line.echo_accepted.Reads as echo-accepted-reads
-use Rattle.processor.proofs.line.line_cause.Reads as line-cause-reads
-use Rattle.processor.proofs.line.load_waits.Reads as load-waits-reads
 
--- src/line.rt:111:9
 parse-requires : tie.Need-parse-requires
 parse-requires c κs = search needs
 
--- src/line.rt:112:9
 -- the function's entry, and the number of the line
 abbrev start : tie.After-line-cause → tie.Start
 start k = k .before .before .before .before .before .before
@@ -50,19 +39,15 @@ load-waits-requires c κs =
     let w = within (s .args .state) (s .pre .1 .0) in
     omega (arith, w .waiters-most, w .accepted-most)
 
--- src/line.rt:113:9
 line-cause-requires : tie.Need-line-cause-requires
 line-cause-requires c κs = search needs
 
--- src/line.rt:115:9
 write-refused-requires : tie.Need-write-refused-requires
 write-refused-requires c κs = search needs
 
--- src/line.rt:116:9
 same-length : tie.Need-same-length
 same-length c = search needs
 
--- src/line.rt:116:9
 returns : tie.Need-returns
 unfolding lineAnswer lineEcho
 returns c =
@@ -75,13 +60,11 @@ returns c =
     let five′ = ap (leb 5) (sym (cause-is k) ∙ number-is k) in
     (simp (number-is k, n), simp (number-is k, n, sym five′ ∙ five) (w .write-refused .ensures))
 
--- src/line.rt:118:5
 echo-accepted-requires : tie.Need-echo-accepted-requires
 echo-accepted-requires c κs =
     let s = start (c .before .before) in
     (s .pre .0, within (s .args .state) (s .pre .1 .0) .accepted-most)
 
--- src/line.rt:119:9
 after-line-requires : tie.Need-after-line-requires
 after-line-requires c κs =
     let e = c .before .before .before .before in
@@ -90,11 +73,9 @@ after-line-requires c κs =
     let p = k .before .before .before in
     (s .pre .1 .0, ap (lineCause (loadWaits (s .args .state)) (commandsFull (s .args .state))) (p .parse .ensures) ∙ sym (cause-is k) ∙ number-is k ∙ e .if1 .left)
 
--- src/line.rt:105:1
 same-length-2 : tie.Need-same-length-2
 same-length-2 c = search needs
 
--- src/line.rt:105:1
 returns-2 : tie.Need-returns-2
 unfolding lineAnswer lineEcho
 returns-2 c =

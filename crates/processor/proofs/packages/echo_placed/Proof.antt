@@ -1,51 +1,35 @@
-use borrow.Author.Tests.{eq-eqb, ne-eqb, not-true, not-false}
+use borrow.Author.Tests.{eq-eqb, ne-eqb}
 use borrow.Author.Needs.{needs}
 use Rattle.processor.proofs.packages.echo_placed.Statement.{statement}
 use Rattle.processor.proofs.packages.echo_placed.Tie as tie
-use Rattle.processor.proofs.packages.echo_placed.Reads as reads
-use Rattle.processor.proofs.packages.echo_placed.Lts as lts
-use Rattle.command.proofs.echo.write_package_error.Reads as write-package-error-reads
-use Rattle.command.proofs.echo.write_package_ok.Reads as write-package-ok-reads
-use Rattle.load.proofs.staging.computed_sum.Reads as computed-sum-reads
-use Rattle.load.proofs.staging.placed.Reads as placed-reads
-use Rattle.load.proofs.staging.received_sum.Reads as received-sum-reads
 
--- src/packages.rt:42:9
 placed-requires : tie.Need-placed-requires
 placed-requires c κs = search needs
 
--- src/packages.rt:44:9
 write-package-ok-requires : tie.Need-write-package-ok-requires
 write-package-ok-requires c κs = search needs
 
--- src/packages.rt:46:13
 received-sum-requires : tie.Need-received-sum-requires
 received-sum-requires c κs = search needs
 
--- src/packages.rt:47:13
 computed-sum-requires : tie.Need-computed-sum-requires
 computed-sum-requires c κs = search needs
 
--- src/packages.rt:48:9
 write-package-error-requires : tie.Need-write-package-error-requires
 write-package-error-requires c κs = search needs
 
--- src/packages.rt:38:1
 same-length : tie.Need-same-length
 same-length c = search needs
 
--- src/packages.rt:38:1
 returns : tie.Need-returns
 returns c =
     let w = c .before .before in
     let t = w .before .before in
     simp (eq-eqb _ _ (t .if1 .taken), w .write-package-ok .ensures, t .before .placed .ensures .0)
 
--- src/packages.rt:38:1
 same-length-2 : tie.Need-same-length-2
 same-length-2 c = search needs
 
--- src/packages.rt:38:1
 returns-2 : tie.Need-returns-2
 returns-2 c =
     let w = c .before .before in

@@ -1,5 +1,5 @@
-use mathlib.Core.Path.{_≡_, sym, ap, _∙_, subst}
-use borrow.Author.Tests.{eq-eqb, ne-eqb, not-true, not-false}
+use mathlib.Core.Path.{sym, ap, _∙_}
+use borrow.Author.Tests.{not-true, not-false}
 use denote.Ref.{now}
 use lib.ListN.{length}
 use Rattle.processor.specs.Package.{isPlaced, packageAnswer, packageStaging, packageEcho}
@@ -7,22 +7,13 @@ use Rattle.processor.proofs.PackageLaws.{Places, package-places}
 use borrow.Author.Needs.{needs}
 use Rattle.processor.proofs.packages.package.Statement.{statement}
 use Rattle.processor.proofs.packages.package.Tie as tie
-use Rattle.processor.proofs.packages.package.Reads as reads
-use Rattle.processor.proofs.packages.package.Lts as lts
-use Rattle.processor.proofs.packages.echo_placed.Reads as echo-placed-reads
-use Rattle.processor.proofs.packages.is_placed.Reads as is-placed-reads
-use Rattle.processor.proofs.packages.package_number.Reads as package-number-reads
-use Rattle.processor.proofs.packages.stage.Reads as stage-reads
 
--- src/packages.rt:71:9
 package-number-requires : tie.Need-package-number-requires
 package-number-requires c κs = search needs
 
--- src/packages.rt:72:9
 is-placed-requires : tie.Need-is-placed-requires
 is-placed-requires c κs = search needs
 
--- src/packages.rt:73:9
 returns : tie.Need-returns
 unfolding packageAnswer packageStaging packageEcho
 returns c =
@@ -31,7 +22,6 @@ returns c =
     let e = sym (p .is-placed .ensures) ∙ not-true _ (c .if1 .taken) in
     (simp (sym n, e), (simp (sym n, e), simp (sym n, e)))
 
--- src/packages.rt:75:5
 -- what is known of a package that is placed
 placed-is : (l : tie.Else1)
     → Places (l .before .before .before .before .before .before .args .state) (now (l .before .before .before .before .before .before .args .bytes))
@@ -48,21 +38,17 @@ echo-placed-requires c κs =
     let k = placed-is (c .before) in
     (k .echo-is, k .is-formed)
 
--- src/packages.rt:76:9
 stage-requires : tie.Need-stage-requires
 stage-requires c κs =
     let k = placed-is (c .before .before .before .before .before) in
     (k .staging-is, k .is-placeable)
 
--- src/packages.rt:66:1
 same-length : tie.Need-same-length
 same-length c = search needs
 
--- src/packages.rt:66:1
 same-length-2 : tie.Need-same-length-2
 same-length-2 c = search needs
 
--- src/packages.rt:66:1
 returns-2 : tie.Need-returns-2
 unfolding packageAnswer packageStaging packageEcho
 returns-2 c =

@@ -1,4 +1,4 @@
-use mathlib.Core.Path.{_≡_, sym, ap, _∙_, subst}
+use mathlib.Core.Path.{sym, _∙_}
 use borrow.Author.Tests.{eq-eqb, ne-eqb, not-true, not-false}
 use native.Mathlib.Omega.{arith}
 use Rattle.state.proofs.LimitLaws.{within}
@@ -6,27 +6,18 @@ use Rattle.processor.specs.Package.{packageCallNumber}
 use borrow.Author.Needs.{needs}
 use Rattle.processor.proofs.packages.package_number.Statement.{statement}
 use Rattle.processor.proofs.packages.package_number.Tie as tie
-use Rattle.processor.proofs.packages.package_number.Reads as reads
-use Rattle.processor.proofs.packages.package_number.Lts as lts
-use Rattle.load.proofs.staging.judge.Reads as judge-reads
-use Rattle.processor.proofs.line.load_waits.Reads as load-waits-reads
-use Rattle.state.proofs.limits.within_limits.Reads as within-limits-reads
 
--- src/packages.rt:16:9
 returns : tie.Need-returns
 unfolding packageCallNumber
 returns c = simp (ne-eqb _ _ (c .if1 .taken))
 
--- src/packages.rt:19:9
 returns-2 : tie.Need-returns-2
 unfolding packageCallNumber
 returns-2 c = simp (eq-eqb _ _ (c .before .if1 .left), ne-eqb _ _ (c .if2 .taken))
 
--- src/packages.rt:21:9
 within-limits-requires : tie.Need-within-limits-requires
 within-limits-requires c κs = search needs
 
--- src/packages.rt:22:9
 returns-3 : tie.Need-returns-3
 unfolding packageCallNumber
 returns-3 c =
@@ -34,14 +25,12 @@ returns-3 c =
     let l = sym (w .within-limits .ensures) ∙ not-true _ (c .if3 .taken) in
     simp (eq-eqb _ _ (w .before .before .if1 .left), eq-eqb _ _ (w .before .if2 .left), l)
 
--- src/packages.rt:24:8
 load-waits-requires : tie.Need-load-waits-requires
 load-waits-requires c κs =
     let l = sym (c .before .within-limits .ensures) ∙ not-false _ (c .if3 .left) in
     let w = within (c .before .before .before .before .before .args .s) l in
     omega (arith, w .waiters-most, w .accepted-most)
 
--- src/packages.rt:25:9
 returns-4 : tie.Need-returns-4
 unfolding packageCallNumber
 returns-4 c =
@@ -51,11 +40,9 @@ returns-4 c =
     let k = sym (c .before .load-waits .ensures) ∙ c .if4 .taken in
     simp (eq-eqb _ _ (w .before .before .if1 .left), eq-eqb _ _ (w .before .if2 .left), l, k)
 
--- src/packages.rt:27:5
 judge-requires : tie.Need-judge-requires
 judge-requires c κs = search needs
 
--- src/packages.rt:12:1
 returns-5 : tie.Need-returns-5
 unfolding packageCallNumber
 returns-5 c =

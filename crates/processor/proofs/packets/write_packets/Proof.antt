@@ -11,7 +11,8 @@ use Rattle.packet.specs.Packet.{packetBytes, ratePacket, beaconPacket}
 use Rattle.packet.specs.TableSum.{tableSum}
 use Rattle.state.proofs.LimitLaws.{within}
 use Rattle.processor.specs.Close.{samplePackets, samplesOf, packetsOf}
-use Rattle.processor.proofs.CloseLaws.{totals-fit, boxes-fit, beacons-fit, length-rate, length-samples, length-beacon}
+use Rattle.packet.proofs.Written.{length-rate, length-beacon}
+use Rattle.processor.proofs.CloseLaws.{totals-fit, boxes-fit, beacons-fit, length-samples}
 use borrow.Author.Needs.{needs}
 use Rattle.processor.proofs.packets.write_packets.Statement.{statement}
 use Rattle.processor.proofs.packets.write_packets.Tie as tie
@@ -92,7 +93,7 @@ returns c =
     let R : List ℕ = ratePacket frame (a .time) (a .s .totals) (a .s .counts .boxes) (a .s .settings) sum in
     let S : List ℕ = samplesOf frame (a .time) (now (a .slots)) samplePackets in
     let E : List ℕ = beaconPacket frame (a .time) (a .s .counts .beacons) in
-    let lr : length R ≡ packetBytes = length-rate frame (a .time) (a .s .totals) (a .s .counts .boxes) (a .s .settings) sum (arrays s .0) (arrays s .1) in
+    let lr : length R ≡ packetBytes = length-rate (a .s .totals) (a .s .counts .boxes) (a .s .settings) sum (arrays s .0) (arrays s .1) frame (a .time) in
     let ls : length S ≡ 2992 = length-samples frame (a .time) (now (a .slots)) samplePackets (omega arith) in
     let le : length E ≡ packetBytes = length-beacon frame (a .time) (a .s .counts .beacons) (arrays s .2) in
     let lrs : length (R ++ S) ≡ 3264 = omega (arith, length-append R S) in

@@ -10,7 +10,8 @@ use Rattle.wire.specs.Bytes.{put}
 use Rattle.wire.proofs.Bytes.{put-put, put-nil, put-mid, length-part}
 use Rattle.packet.specs.Packet.{packetBytes, samplePacket}
 use Rattle.processor.specs.Close.{samplesOf}
-use Rattle.processor.proofs.CloseLaws.{length-sample, length-samples}
+use Rattle.packet.proofs.Written.{length-sample}
+use Rattle.processor.proofs.CloseLaws.{length-samples}
 use borrow.Author.Needs.{needs}
 use Rattle.processor.proofs.packets.write_samples.Statement.{statement}
 use Rattle.processor.proofs.packets.write_samples.Tie as tie

@@ -1,30 +1,23 @@
-use mathlib.Core.Path.{_≡_, sym, ap, _∙_, subst}
-use borrow.Author.Tests.{eq-eqb, ne-eqb, lt-ltb, le-ltb, le-leb, lt-leb, not-true, not-false}
+use mathlib.Core.Path.{sym, _∙_}
+use borrow.Author.Tests.{lt-ltb, le-ltb, not-true, not-false}
 use Rattle.processor.specs.Reading.{readingNumber}
 use borrow.Author.Needs.{needs}
 use Rattle.processor.proofs.reading.reading_number.Statement.{statement}
 use Rattle.processor.proofs.reading.reading_number.Tie as tie
-use Rattle.processor.proofs.reading.reading_number.Reads as reads
-use Rattle.processor.proofs.reading.reading_number.Lts as lts
-use Rattle.state.proofs.limits.within_limits.Reads as within-limits-reads
 
--- src/reading.rt:15:9
 within-limits-requires : tie.Need-within-limits-requires
 within-limits-requires c κs = search needs
 
--- src/reading.rt:16:9
 returns : tie.Need-returns
 unfolding readingNumber
 returns c = simp (sym (c .before .within-limits .ensures) ∙ not-true _ (c .if1 .taken))
 
--- src/reading.rt:12:1
 returns-2 : tie.Need-returns-2
 unfolding readingNumber
 returns-2 c =
     let e = c .before .before in
     simp (sym (e .before .within-limits .ensures) ∙ not-false _ (e .if1 .left), lt-ltb _ _ (c .if2 .taken))
 
--- src/reading.rt:12:1
 returns-3 : tie.Need-returns-3
 unfolding readingNumber
 returns-3 c =

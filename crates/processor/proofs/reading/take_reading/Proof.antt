@@ -4,22 +4,16 @@ use Rattle.processor.specs.Reading.{stateRead}
 use borrow.Author.Needs.{needs}
 use Rattle.processor.proofs.reading.take_reading.Statement.{statement}
 use Rattle.processor.proofs.reading.take_reading.Tie as tie
-use Rattle.processor.proofs.reading.take_reading.Reads as reads
-use Rattle.processor.proofs.reading.take_reading.Lts as lts
-use Rattle.processor.proofs.reading.added.Reads as added-reads
 
--- src/reading.rt:54:9
 added-requires : tie.Need-added-requires
 added-requires c κs k =
     let s = c .before in
     let w = within (s .args .s) (s .pre .0) in
     omega (arith, total-most (s .args .s) w k, w .readings-most)
 
--- src/reading.rt:56:18
 add-t : tie.Need-add-t
 add-t c = search needs
 
--- src/reading.rt:49:1
 returns : tie.Need-returns
 unfolding stateRead
 returns c = simp (c .before .added .ensures)

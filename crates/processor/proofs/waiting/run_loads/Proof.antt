@@ -7,7 +7,8 @@ use denote.Ref.{now}
 use Rattle.state.specs.State.{filler}
 use Rattle.state.specs.Limits.{givenAt}
 use Rattle.processor.specs.Close.{tablesAfter, tablesAfterAll}
-use Rattle.processor.proofs.CloseLaws.{all-nth, tables-step, tables-end}
+use Rattle.wire.proofs.Lists.{all-get}
+use Rattle.processor.proofs.CloseLaws.{tables-step, tables-end}
 use borrow.Author.Needs.{needs}
 use Rattle.processor.proofs.waiting.run_loads.Statement.{statement}
 use Rattle.processor.proofs.waiting.run_loads.Tie as tie
@@ -39,7 +40,7 @@ run-command-requires c κs =
     let i = l .loop .i in
     let len : length w ≡ 32 = s .good .1 .1 .1 .0 .1 .0 .1 in
     let k : length (take n w) ≡ n = length-take-le n w (omega arith) in
-    (search needs, ap (givenAt (s .args .reach)) (sym (getD-take n w i filler (omega arith))) ∙ all-nth (givenAt (s .args .reach)) (take n w) filler i (omega arith) (s .pre .1 .1))
+    (search needs, ap (givenAt (s .args .reach)) (sym (getD-take n w i filler (omega arith))) ∙ all-get (givenAt (s .args .reach)) (take n w) filler i (omega arith) (s .pre .1 .1))
 
 add-i : tie.Need-add-i Inv-loop μ-loop
 add-i c = search needs

@@ -6,36 +6,27 @@ use Rattle.sort.proofs.ColumnLaws.{less-fits, less-back, sub-below, sub
 use borrow.Author.Needs.{needs}
 use Rattle.sort.proofs.columns.difference.Statement.{statement}
 use Rattle.sort.proofs.columns.difference.Tie as tie
-use Rattle.sort.proofs.columns.difference.Reads as reads
-use Rattle.sort.proofs.columns.difference.Lts as lts
 
--- src/columns.rt:22:15
 sub-result : tie.Need-sub-result
 sub-result c = search needs
 
--- src/columns.rt:22:15
 sub-result-2 : tie.Need-sub-result-2
 sub-result-2 c = search needs
 
--- src/columns.rt:22:14
 cast-result : tie.Need-cast-result
 cast-result c = search needs
 
--- src/columns.rt:22:9
 sub-result-3 : tie.Need-sub-result-3
 sub-result-3 c = less-fits (c .before .args .b - c .before .args .a - 1) (cast-result c .sfits)
 
--- src/columns.rt:24:9
 cast-result-2 : tie.Need-cast-result-2
 cast-result-2 c = search needs
 
--- src/columns.rt:17:1
 returns : tie.Need-returns
 returns c =
     less-back (c .before .args .b - c .before .args .a - 1) (cast-result c .sfits)
     ∙ sym (sub-below (c .before .args .a) (c .before .args .b) (c .if1 .taken))
 
--- src/columns.rt:17:1
 returns-2 : tie.Need-returns-2
 returns-2 c =
     toZ-pos w32 _ (cast-result-2 c .sfits) ∙ sym (sub-above (c .before .args .a) (c .before .args .b) (c .if1 .left))

@@ -7,24 +7,16 @@ use Rattle.sort.proofs.ColumnLaws.{energy-sub}
 use borrow.Author.Needs.{needs}
 use Rattle.sort.proofs.columns.energy_column.Statement.{statement}
 use Rattle.sort.proofs.columns.energy_column.Tie as tie
-use Rattle.sort.proofs.columns.energy_column.Reads as reads
-use Rattle.sort.proofs.columns.energy_column.Lts as lts
-use Rattle.sort.proofs.columns.difference.Reads as difference-reads
-use Rattle.sort.proofs.columns.floor_div.Reads as floor-div-reads
 
--- src/columns.rt:41:26
 add-difference : tie.Need-add-difference
 add-difference c = search needs
 
--- src/columns.rt:41:15
 difference-requires : tie.Need-difference-requires
 difference-requires c κs = search needs
 
--- src/columns.rt:41:5
 floor-div-requires : tie.Need-floor-div-requires
 floor-div-requires c κs = search needs
 
--- src/columns.rt:37:1
 returns : tie.Need-returns
 returns c =
     let s = c .before .before in

@@ -7,40 +7,28 @@ use Rattle.sort.proofs.ColumnLaws.{mass-sub}
 use borrow.Author.Needs.{needs}
 use Rattle.sort.proofs.columns.mass_column.Statement.{statement}
 use Rattle.sort.proofs.columns.mass_column.Tie as tie
-use Rattle.sort.proofs.columns.mass_column.Reads as reads
-use Rattle.sort.proofs.columns.mass_column.Lts as lts
-use Rattle.sort.proofs.columns.difference.Reads as difference-reads
-use Rattle.sort.proofs.columns.floor_div.Reads as floor-div-reads
 
--- src/columns.rt:33:31
 add-difference : tie.Need-add-difference
 add-difference c = search needs
 
--- src/columns.rt:33:31
 add-difference-2 : tie.Need-add-difference-2
 add-difference-2 c = search needs
 
--- src/columns.rt:33:26
 mul-difference : tie.Need-mul-difference
 mul-difference c = search needs
 
--- src/columns.rt:33:52
 add-difference-3 : tie.Need-add-difference-3
 add-difference-3 c = search needs
 
--- src/columns.rt:33:47
 mul-difference-2 : tie.Need-mul-difference-2
 mul-difference-2 c = search needs
 
--- src/columns.rt:33:15
 difference-requires : tie.Need-difference-requires
 difference-requires c κs = search needs
 
--- src/columns.rt:33:5
 floor-div-requires : tie.Need-floor-div-requires
 floor-div-requires c κs = search needs
 
--- src/columns.rt:29:1
 returns : tie.Need-returns
 returns c =
     let s = c .before .before in

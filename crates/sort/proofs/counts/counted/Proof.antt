@@ -6,37 +6,26 @@ use Rattle.sort.proofs.CountLaws.{box-below}
 use borrow.Author.Needs.{needs}
 use Rattle.sort.proofs.counts.counted.Statement.{statement}
 use Rattle.sort.proofs.counts.counted.Tie as tie
-use Rattle.sort.proofs.counts.counted.Reads as reads
-use Rattle.sort.proofs.counts.counted.Lts as lts
-use Rattle.sort.proofs.counts.counted_cell.Reads as counted-cell-reads
-use Rattle.sort.proofs.counts.gain_box.Reads as gain-box-reads
-use Rattle.sort.proofs.counts.with_box.Reads as with-box-reads
 
--- src/counts.rt:81:31
 enum-told : tie.Need-enum-told
 enum-told c = search needs
 
--- src/counts.rt:81:31
 with-box-requires : tie.Need-with-box-requires
 with-box-requires c κs =
     let s = c .before .before in
     (omega arith, each-more 1000000 4294967295 (s .args .c .boxes) (omega arith) (s .pre .1 .0))
 
--- src/counts.rt:82:30
 enum-known-o : tie.Need-enum-known-o
 enum-known-o c = search needs
 
--- src/counts.rt:82:60
 gain-box-requires : tie.Need-gain-box-requires
 gain-box-requires c κs = search needs
 
--- src/counts.rt:82:48
 with-box-requires-2 : tie.Need-with-box-requires-2
 with-box-requires-2 c κs =
     let s = c .before .before .before .before in
     (omega (arith, c .gain-box .ensures), each-more 1000000 4294967295 (s .args .c .boxes) (omega arith) (s .pre .1 .0))
 
--- src/counts.rt:82:39
 with-box-requires-3 : tie.Need-with-box-requires-3
 with-box-requires-3 c κs =
     let s = c .before .before .before .before .before in
@@ -44,24 +33,20 @@ with-box-requires-3 c κs =
     let b = box-below 1000000 (s .args .c) (w .result) _ (w .ensures) (s .pre .1 .0) in
     (omega arith, each-more 1000001 4294967295 (w .result .boxes) (omega arith) b)
 
--- src/counts.rt:83:25
 enum-known-o-2 : tie.Need-enum-known-o-2
 enum-known-o-2 c = search needs
 
--- src/counts.rt:83:40
 counted-cell-requires : tie.Need-counted-cell-requires
 counted-cell-requires c κs =
     let s = c .before .before .before in
     (subst OutcomeNames (c .before .o2 .given .1) (s .pre .0), (s .pre .1 .0, s .pre .1 .1))
 
--- src/counts.rt:74:1
 returns : tie.Need-returns
 unfolding countedOf
 returns c =
     let s = c .before .before .before in
     c .with-box .ensures ∙ ap (countedOf (s .args .c)) (sym (c .before .enum-told .given .1))
 
--- src/counts.rt:74:1
 returns-2 : tie.Need-returns-2
 unfolding countedOf
 returns-2 c =
@@ -70,7 +55,6 @@ returns-2 c =
     simp (c .with-box3 .ensures, w .with-box2 .ensures, w .before .gain-box .ensures .0)
     (ap (countedOf (s .args .c)) (sym (w .before .before .before .o .given .1)))
 
--- src/counts.rt:74:1
 returns-3 : tie.Need-returns-3
 returns-3 c =
     let s = c .before .before .before .before in

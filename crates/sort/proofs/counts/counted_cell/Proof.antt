@@ -1,32 +1,22 @@
 use Rattle.sort.proofs.CountLaws.{box-below, box-beacons, cell-counted}
 use native.Mathlib.Omega.{arith}
-use Rattle.wire.proofs.Lists.{each-more, each-bump}
+use Rattle.wire.proofs.Lists.{each-more}
 use borrow.Author.Needs.{needs}
 use Rattle.sort.proofs.counts.counted_cell.Statement.{statement}
 use Rattle.sort.proofs.counts.counted_cell.Tie as tie
-use Rattle.sort.proofs.counts.counted_cell.Reads as reads
-use Rattle.sort.proofs.counts.counted_cell.Lts as lts
-use Rattle.sort.proofs.counts.gain_box.Reads as gain-box-reads
-use Rattle.sort.proofs.counts.priority_box.Reads as priority-box-reads
-use Rattle.sort.proofs.counts.with_beacon.Reads as with-beacon-reads
-use Rattle.sort.proofs.counts.with_box.Reads as with-box-reads
 
--- src/counts.rt:67:25
 gain-box-requires : tie.Need-gain-box-requires
 gain-box-requires c κs = search needs
 
--- src/counts.rt:67:9
 with-box-requires : tie.Need-with-box-requires
 with-box-requires c κs =
     let s = c .before in
     let g = c .gain-box .ensures in
     (omega arith, each-more 1000000 4294967295 (s .args .c .boxes) (omega arith) (s .pre .1 .0))
 
--- src/counts.rt:68:25
 priority-box-requires : tie.Need-priority-box-requires
 priority-box-requires c κs = search needs
 
--- src/counts.rt:68:9
 with-box-requires-2 : tie.Need-with-box-requires-2
 with-box-requires-2 c κs =
     let s = c .before .before .before in
@@ -34,11 +24,9 @@ with-box-requires-2 c κs =
     let b1 = box-below 1000000 (s .args .c) (w1 .result) _ (w1 .ensures) (s .pre .1 .0) in
     (omega (arith, c .priority-box .ensures), each-more 1000001 4294967295 (w1 .result .boxes) (omega arith) b1)
 
--- src/counts.rt:69:25
 cast-with-box : tie.Need-cast-with-box
 cast-with-box c = search needs
 
--- src/counts.rt:69:9
 with-box-requires-3 : tie.Need-with-box-requires-3
 with-box-requires-3 c κs =
     let s = c .before .before .before .before .before in
@@ -48,11 +36,9 @@ with-box-requires-3 c κs =
     let b2 = box-below 1000001 (w1 .result) (w2 .result) _ (w2 .ensures) b1 in
     (omega (arith, s .pre .0), each-more 1000002 4294967295 (w2 .result .boxes) (omega arith) b2)
 
--- src/counts.rt:70:20
 cast-with-beacon : tie.Need-cast-with-beacon
 cast-with-beacon c = search needs
 
--- src/counts.rt:70:5
 with-beacon-requires : tie.Need-with-beacon-requires
 with-beacon-requires c κs =
     let s = c .before .before .before .before .before .before .before in
@@ -64,7 +50,6 @@ with-beacon-requires c κs =
     let b3 = box-beacons 1000000 (w2 .result) (w3 .result) _ (w3 .ensures) b2 in
     (omega (arith, s .pre .0), each-more 1000000 4294967295 (w3 .result .beacons) (omega arith) b3)
 
--- src/counts.rt:61:1
 returns : tie.Need-returns
 returns c =
     let w3 = c .before .before in

@@ -2,19 +2,13 @@ use mathlib.Core.Path.{sym, _∙_}
 use borrow.Author.Needs.{needs}
 use Rattle.sort.proofs.event.channel.Statement.{statement}
 use Rattle.sort.proofs.event.channel.Tie as tie
-use Rattle.sort.proofs.event.channel.Reads as reads
-use Rattle.sort.proofs.event.channel.Lts as lts
-use Rattle.sort.proofs.event.gain.Reads as gain-reads
 
--- src/event.rt:43:8
 gain-requires : tie.Need-gain-requires
 gain-requires c κs = search needs
 
--- src/event.rt:40:1
 returns : tie.Need-returns
 returns c = simp (sym (c .before .gain .ensures) ∙ c .if1 .taken)
 
--- src/event.rt:40:1
 returns-2 : tie.Need-returns-2
 returns-2 c = simp (sym (c .before .gain .ensures) ∙ c .if1 .left)
 

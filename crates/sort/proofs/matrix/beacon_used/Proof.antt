@@ -1,15 +1,10 @@
 use borrow.Author.Tests.{le-leb, lt-leb}
-use borrow.Author.Needs.{needs}
 use Rattle.sort.proofs.matrix.beacon_used.Statement.{statement}
 use Rattle.sort.proofs.matrix.beacon_used.Tie as tie
-use Rattle.sort.proofs.matrix.beacon_used.Reads as reads
-use Rattle.sort.proofs.matrix.beacon_used.Lts as lts
 
--- src/matrix.rt:27:1
 returns : tie.Need-returns
 returns c = simp (le-leb _ _ (c .if1 .taken))
 
--- src/matrix.rt:27:1
 returns-2 : tie.Need-returns-2
 returns-2 c = simp (lt-leb _ _ (c .if1 .left))
 

@@ -1,14 +1,9 @@
-use borrow.Author.Needs.{needs}
 use Rattle.sort.proofs.matrix.box_used.Statement.{statement}
 use Rattle.sort.proofs.matrix.box_used.Tie as tie
-use Rattle.sort.proofs.matrix.box_used.Reads as reads
-use Rattle.sort.proofs.matrix.box_used.Lts as lts
 
--- src/matrix.rt:20:1
 returns : tie.Need-returns
 returns c = simp (c .if1 .taken)
 
--- src/matrix.rt:20:1
 returns-2 : tie.Need-returns-2
 returns-2 c = simp (c .if1 .left)
 

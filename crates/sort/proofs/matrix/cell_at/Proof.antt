@@ -2,44 +2,31 @@ use Rattle.sort.specs.Matrix.{cellOf}
 use borrow.Author.Needs.{needs}
 use Rattle.sort.proofs.matrix.cell_at.Statement.{statement}
 use Rattle.sort.proofs.matrix.cell_at.Tie as tie
-use Rattle.sort.proofs.matrix.cell_at.Reads as reads
-use Rattle.sort.proofs.matrix.cell_at.Lts as lts
-use Rattle.sort.proofs.matrix.beacon_used.Reads as beacon-used-reads
-use Rattle.sort.proofs.matrix.box_used.Reads as box-used-reads
 
--- src/matrix.rt:39:19
 mul-at : tie.Need-mul-at
 mul-at c = search needs
 
--- src/matrix.rt:39:19
 add-at : tie.Need-add-at
 add-at c = search needs
 
--- src/matrix.rt:39:14
 mul-at-2 : tie.Need-mul-at-2
 mul-at-2 c = search needs
 
--- src/matrix.rt:40:17
 shared-slice-read-first : tie.Need-shared-slice-read-first
 shared-slice-read-first c = search needs
 
--- src/matrix.rt:42:18
 box-used-requires : tie.Need-box-used-requires
 box-used-requires c κs = search needs
 
--- src/matrix.rt:44:36
 add-beacon-used : tie.Need-add-beacon-used
 add-beacon-used c = search needs
 
--- src/matrix.rt:44:29
 shared-slice-read-beacon-used : tie.Need-shared-slice-read-beacon-used
 shared-slice-read-beacon-used c = search needs
 
--- src/matrix.rt:44:17
 beacon-used-requires : tie.Need-beacon-used-requires
 beacon-used-requires c κs = search needs
 
--- src/matrix.rt:34:1
 returns : tie.Need-returns
 unfolding cellOf
 returns c = simp (c .beacon-used .ensures, c .before .before .box-used .ensures)

@@ -5,14 +5,10 @@ use lib.Bits.{bitOr, or-shifted}
 use borrow.Author.Needs.{needs}
 use Rattle.sort.proofs.record.append.Statement.{statement}
 use Rattle.sort.proofs.record.append.Tie as tie
-use Rattle.sort.proofs.record.append.Reads as reads
-use Rattle.sort.proofs.record.append.Lts as lts
 
--- src/record.rt:33:6
 shl-result : tie.Need-shl-result
 shl-result c = search needs
 
--- src/record.rt:29:1
 returns : tie.Need-returns
 returns c =
     let a = c .args in

@@ -2,72 +2,52 @@ use Rattle.sort.specs.Record.{recordOf}
 use borrow.Author.Needs.{needs}
 use Rattle.sort.proofs.record.pack.Statement.{statement}
 use Rattle.sort.proofs.record.pack.Tie as tie
-use Rattle.sort.proofs.record.pack.Reads as reads
-use Rattle.sort.proofs.record.pack.Lts as lts
-use Rattle.sort.proofs.record.append.Reads as append-reads
-use Rattle.sort.proofs.record.bit.Reads as bit-reads
 
--- src/record.rt:48:20
 cast-append : tie.Need-cast-append
 cast-append c = search needs
 
--- src/record.rt:48:46
 cast-append-2 : tie.Need-cast-append-2
 cast-append-2 c = search needs
 
--- src/record.rt:48:9
 append-requires : tie.Need-append-requires
 append-requires c κs = search needs
 
--- src/record.rt:49:26
 bit-requires : tie.Need-bit-requires
 bit-requires c κs = search needs
 
--- src/record.rt:49:9
 append-requires-2 : tie.Need-append-requires-2
 append-requires-2 c κs = search needs
 
--- src/record.rt:50:26
 bit-requires-2 : tie.Need-bit-requires-2
 bit-requires-2 c κs = search needs
 
--- src/record.rt:50:9
 append-requires-3 : tie.Need-append-requires-3
 append-requires-3 c κs = search needs
 
--- src/record.rt:51:26
 bit-requires-3 : tie.Need-bit-requires-3
 bit-requires-3 c κs = search needs
 
--- src/record.rt:51:9
 append-requires-4 : tie.Need-append-requires-4
 append-requires-4 c κs = search needs
 
--- src/record.rt:52:26
 bit-requires-4 : tie.Need-bit-requires-4
 bit-requires-4 c κs = search needs
 
--- src/record.rt:52:9
 append-requires-5 : tie.Need-append-requires-5
 append-requires-5 c κs = search needs
 
--- src/record.rt:53:33
 cast-append-3 : tie.Need-cast-append-3
 cast-append-3 c = search needs
 
--- src/record.rt:53:9
 append-requires-6 : tie.Need-append-requires-6
 append-requires-6 c κs = search needs
 
--- src/record.rt:54:18
 bit-requires-5 : tie.Need-bit-requires-5
 bit-requires-5 c κs = search needs
 
--- src/record.rt:54:5
 append-requires-7 : tie.Need-append-requires-7
 append-requires-7 c κs = search needs
 
--- src/record.rt:44:1
 returns : tie.Need-returns
 unfolding recordOf
 returns c =

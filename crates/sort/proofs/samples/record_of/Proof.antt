@@ -4,31 +4,19 @@ use Rattle.sort.proofs.EventLaws.{in-range, channel-fits, box-fits}
 use borrow.Author.Needs.{needs}
 use Rattle.sort.proofs.samples.record_of.Statement.{statement}
 use Rattle.sort.proofs.samples.record_of.Tie as tie
-use Rattle.sort.proofs.samples.record_of.Reads as reads
-use Rattle.sort.proofs.samples.record_of.Lts as lts
-use Rattle.sort.proofs.event.channel.Reads as channel-reads
-use Rattle.sort.proofs.event.gain.Reads as gain-reads
-use Rattle.sort.proofs.record.pack.Reads as pack-reads
-use Rattle.sort.proofs.samples.box_of.Reads as box-of-reads
-use Rattle.sort.proofs.samples.priority_of.Reads as priority-of-reads
 
--- src/samples.rt:56:18
 channel-requires : tie.Need-channel-requires
 channel-requires c κs = search needs
 
--- src/samples.rt:59:15
 gain-requires : tie.Need-gain-requires
 gain-requires c κs = search needs
 
--- src/samples.rt:61:18
 box-of-requires : tie.Need-box-of-requires
 box-of-requires c κs = search needs
 
--- src/samples.rt:62:19
 priority-of-requires : tie.Need-priority-of-requires
 priority-of-requires c κs = search needs
 
--- src/samples.rt:54:5
 pack-requires : tie.Need-pack-requires
 pack-requires c κs =
     let g = c .before .before in
@@ -38,7 +26,6 @@ pack-requires c κs =
     let b = box-fits (s .args .o) (s .pre .1) in
     (omega arith, omega (arith, g .before .channel .ensures), omega (arith, c .before .box-of .ensures))
 
--- src/samples.rt:49:1
 returns : tie.Need-returns
 unfolding eventRecord
 returns c =

@@ -3,47 +3,35 @@ use Rattle.sort.specs.Samples.{placeOf}
 use borrow.Author.Needs.{needs}
 use Rattle.sort.proofs.slots.place.Statement.{statement}
 use Rattle.sort.proofs.slots.place.Tie as tie
-use Rattle.sort.proofs.slots.place.Reads as reads
-use Rattle.sort.proofs.slots.place.Lts as lts
 
--- src/slots.rt:28:9
 mul-slots : tie.Need-mul-slots
 mul-slots c = search needs
 
--- src/slots.rt:28:9
 slice-write-slots : tie.Need-slice-write-slots
 slice-write-slots c = search needs
 
--- src/slots.rt:30:19
 add-t9 : tie.Need-add-t9
 add-t9 c = search needs
 
--- src/slots.rt:29:9
 same-length : tie.Need-same-length
 same-length c = search needs
 
--- src/slots.rt:29:9
 returns : tie.Need-returns
 unfolding placeOf
 returns c = let e = lt-ltb _ _ (c .if1 .taken) in (rw e, rw e)
 
--- src/slots.rt:36:13
 mul-slots-2 : tie.Need-mul-slots-2
 mul-slots-2 c = search needs
 
--- src/slots.rt:36:13
 slice-write-slots-2 : tie.Need-slice-write-slots-2
 slice-write-slots-2 c = search needs
 
--- src/slots.rt:39:27
 add-t12 : tie.Need-add-t12
 add-t12 c = search needs
 
--- src/slots.rt:37:13
 same-length-2 : tie.Need-same-length-2
 same-length-2 c = search needs
 
--- src/slots.rt:37:13
 returns-2 : tie.Need-returns-2
 unfolding placeOf
 returns-2 c =
@@ -52,7 +40,6 @@ returns-2 c =
     let d = lt-ltb _ _ (c .if3 .taken) in
     (simp (a, b, d), simp (a, b, d))
 
--- src/slots.rt:15:1
 returns-3 : tie.Need-returns-3
 unfolding placeOf
 returns-3 c =
@@ -61,7 +48,6 @@ returns-3 c =
     let d = le-ltb _ _ (c .if3 .left) in
     (simp (a, b, d), simp (a, b, d))
 
--- src/slots.rt:15:1
 returns-4 : tie.Need-returns-4
 unfolding placeOf
 returns-4 c =

@@ -3,28 +3,20 @@ use Rattle.sort.specs.declared.sorting.Outcome.the-variants.{InCell}
 use Rattle.sort.specs.Columns.{bounded}
 use Rattle.sort.proofs.ColumnLaws.{inside-most}
 use Rattle.sort.proofs.MachineDivision.{bounded-back}
-use mathlib.Core.Path.{_≡_, sym, ap, _∙_}
+use mathlib.Core.Path.{_≡_, ap}
 use borrow.Author.Needs.{needs}
 use Rattle.sort.proofs.sorting.located.Statement.{statement}
 use Rattle.sort.proofs.sorting.located.Tie as tie
-use Rattle.sort.proofs.sorting.located.Reads as reads
-use Rattle.sort.proofs.sorting.located.Lts as lts
-use Rattle.sort.proofs.columns.bounded.Reads as bounded-reads
-use Rattle.sort.proofs.matrix.cell_at.Reads as cell-at-reads
 
--- src/sorting.rt:66:9
 bounded-requires : tie.Need-bounded-requires
 bounded-requires c κs = search needs
 
--- src/sorting.rt:67:24
 enum-known-column : tie.Need-enum-known-column
 enum-known-column c = search needs
 
--- src/sorting.rt:68:9
 enum-told : tie.Need-enum-told
 enum-told c = search needs
 
--- src/sorting.rt:68:9
 returns : tie.Need-returns
 returns c =
     let b = c .before .before in
@@ -46,33 +38,27 @@ energy-is k =
     let s = b .before .before .before .before .before .before in
     bounded-back (s .args .energy) _ _ (s .fits .energy) (b .bounded2 .ensures) (k .before .row .given .1)
 
--- src/sorting.rt:70:9
 bounded-requires-2 : tie.Need-bounded-requires-2
 bounded-requires-2 c κs = search needs
 
--- src/sorting.rt:71:24
 enum-known-row : tie.Need-enum-known-row
 enum-known-row c = search needs
 
--- src/sorting.rt:72:9
 enum-told-2 : tie.Need-enum-told-2
 enum-told-2 c = search needs
 
--- src/sorting.rt:72:9
 returns-2 : tie.Need-returns-2
 returns-2 c =
     let b = c .before .before in
     let s = b .before .before .before .before .before .before in
     rw (mass-is (b .before), bounded-back (s .args .energy) _ _ (s .fits .energy) (b .bounded2 .ensures) (c .enum-told2 .given .1))
 
--- src/sorting.rt:74:27
 cell-at-requires : tie.Need-cell-at-requires
 cell-at-requires c κs =
     let k = c .before .before .before .before in
     let s = k .before .before .before .before .before in
     (s .pre, (inside-most (s .args .mass) _ (mass-is k), inside-most (s .args .energy) _ (energy-is c)))
 
--- src/sorting.rt:62:1
 returns-3 : tie.Need-returns-3
 returns-3 c =
     let k = c .before .before .before .before .before in

@@ -7,25 +7,16 @@ use Rattle.sort.specs.Sorting.{located, placed}
 use borrow.Author.Needs.{needs}
 use Rattle.sort.proofs.sorting.placed.Statement.{statement}
 use Rattle.sort.proofs.sorting.placed.Tie as tie
-use Rattle.sort.proofs.sorting.placed.Reads as reads
-use Rattle.sort.proofs.sorting.placed.Lts as lts
-use Rattle.sort.proofs.columns.energy_column.Reads as energy-column-reads
-use Rattle.sort.proofs.columns.mass_column.Reads as mass-column-reads
-use Rattle.sort.proofs.sorting.located.Reads as located-reads
 
--- src/sorting.rt:83:9
 mass-column-requires : tie.Need-mass-column-requires
 mass-column-requires c κs = search needs
 
--- src/sorting.rt:84:9
 energy-column-requires : tie.Need-energy-column-requires
 energy-column-requires c κs = search needs
 
--- src/sorting.rt:85:5
 located-requires : tie.Need-located-requires
 located-requires c κs = search needs
 
--- src/sorting.rt:78:1
 returns : tie.Need-returns
 unfolding placed
 returns c =

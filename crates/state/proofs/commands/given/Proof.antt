@@ -1,20 +1,16 @@
-use Prim.Native.Nat.{ℕ, _≤_, _-_, _+_}
-use mathlib.Core.Bool.{_&&_, cond, true, false}
-use mathlib.Core.Logic.{⊎-elim}
+use Prim.Native.Nat.{_≤_, _-_, _+_}
+use mathlib.Core.Bool.{_&&_}
 use mathlib.Core.Path.{_≡_, refl, sym, ap, _∙_}
 use native.Mathlib.Omega.{arith}
-use lib.ListN.{length, take, drop, getD}
+use lib.ListN.{length, take, drop}
 use lib.Seq.{length-take-le, getD-take}
-use Rattle.wire.specs.Lists.{all, keep}
-use Rattle.wire.proofs.Lists.{scan-step, scan-end, count-step, count-end}
+use Rattle.wire.specs.Lists.{all}
+use Rattle.wire.proofs.Lists.{scan-step, scan-end}
 use Rattle.state.specs.State.{filler}
-use Rattle.state.specs.Limits.{isLoad, loadsIn, givenAt}
+use Rattle.state.specs.Limits.{givenAt}
 use borrow.Author.Needs.{needs}
 use Rattle.state.proofs.commands.given.Statement.{statement}
 use Rattle.state.proofs.commands.given.Tie as tie
-use Rattle.state.proofs.commands.given.Reads as reads
-use Rattle.state.proofs.commands.given.Lts as lts
-use Rattle.command.proofs.command.command_ok.Reads as command-ok-reads
 
 abbrev Inv-loop : tie.InvT-loop
 Inv-loop n reach w ok₀ i₀ ok i = (i ≤ n) × ((ok && all (givenAt reach) (drop i (take n w))) ≡ all (givenAt reach) (take n w))
@@ -22,31 +18,24 @@ Inv-loop n reach w ok₀ i₀ ok i = (i ≤ n) × ((ok && all (givenAt reach) (d
 abbrev μ-loop : tie.MeasureT-loop
 μ-loop n reach w ok₀ i₀ ok i = n - i
 
--- src/commands.rt:50:5
 loop-holds : tie.Need-loop-holds Inv-loop μ-loop
 loop-holds c = (omega arith, refl)
 
--- src/commands.rt:51:17
 mul-x : tie.Need-mul-x Inv-loop μ-loop
 mul-x c = search needs
 
--- src/commands.rt:51:17
 array-copy-out-x : tie.Need-array-copy-out-x Inv-loop μ-loop
 array-copy-out-x c = search needs
 
--- src/commands.rt:53:19
 command-ok-requires : tie.Need-command-ok-requires Inv-loop μ-loop
 command-ok-requires c κs = search needs
 
--- src/commands.rt:54:9
 add-i : tie.Need-add-i Inv-loop μ-loop
 add-i c = search needs
 
--- src/commands.rt:50:5
 loop-less : tie.Need-loop-less Inv-loop μ-loop
 loop-less c = search needs
 
--- src/commands.rt:50:5
 loop-again : tie.Need-loop-again Inv-loop μ-loop
 loop-again c =
     let l = c .before .before .before in
@@ -62,7 +51,6 @@ loop-again c =
           ∙ scan-step (givenAt (s .args .reach)) (take n w) filler (l .loop .ok) i (omega arith) (l .loop .inv .1),
     )
 
--- src/commands.rt:44:1
 returns : tie.Need-returns Inv-loop μ-loop
 returns c =
     let l = c .before in

@@ -1,20 +1,16 @@
-use Prim.Native.Nat.{ℕ, _≤_, _-_, _+_}
-use mathlib.Core.Bool.{_&&_, cond, true, false}
+use Prim.Native.Nat.{_≤_, _-_, _+_}
+use mathlib.Core.Bool.{cond}
 use mathlib.Core.Logic.{⊎-elim}
-use mathlib.Core.Path.{_≡_, refl, sym, ap, _∙_}
+use mathlib.Core.Path.{_≡_, sym, ap, _∙_}
 use native.Mathlib.Omega.{arith}
-use lib.ListN.{length, take, drop, getD}
+use lib.ListN.{length, take, drop}
 use lib.Seq.{length-take-le, getD-take}
-use Rattle.wire.specs.Lists.{all, keep}
-use Rattle.wire.proofs.Lists.{scan-step, scan-end, count-step, count-end}
+use Rattle.wire.proofs.Lists.{count-step, count-end}
 use Rattle.state.specs.State.{filler}
-use Rattle.state.specs.Limits.{isLoad, loadsIn, givenAt}
+use Rattle.state.specs.Limits.{isLoad, loadsIn}
 use borrow.Author.Needs.{needs}
 use Rattle.state.proofs.commands.loads.Statement.{statement}
 use Rattle.state.proofs.commands.loads.Tie as tie
-use Rattle.state.proofs.commands.loads.Reads as reads
-use Rattle.state.proofs.commands.loads.Lts as lts
-use Rattle.state.proofs.commands.is_load.Reads as is-load-reads
 
 abbrev Inv-loop : tie.InvT-loop
 Inv-loop n w count₀ i₀ count i = (i ≤ n) × (count ≤ i) × (count + loadsIn (drop i (take n w)) ≡ loadsIn (take n w))
@@ -22,35 +18,27 @@ Inv-loop n w count₀ i₀ count i = (i ≤ n) × (count ≤ i) × (count + load
 abbrev μ-loop : tie.MeasureT-loop
 μ-loop n w count₀ i₀ count i = n - i
 
--- src/commands.rt:32:5
 loop-holds : tie.Need-loop-holds Inv-loop μ-loop
 loop-holds c = (omega arith, omega arith, omega arith)
 
--- src/commands.rt:33:17
 mul-x : tie.Need-mul-x Inv-loop μ-loop
 mul-x c = search needs
 
--- src/commands.rt:33:17
 array-copy-out-x : tie.Need-array-copy-out-x Inv-loop μ-loop
 array-copy-out-x c = search needs
 
--- src/commands.rt:35:12
 is-load-requires : tie.Need-is-load-requires Inv-loop μ-loop
 is-load-requires c κs = search needs
 
--- src/commands.rt:36:13
 add-count : tie.Need-add-count Inv-loop μ-loop
 add-count c = search needs
 
--- src/commands.rt:38:9
 add-i : tie.Need-add-i Inv-loop μ-loop
 add-i c = search needs
 
--- src/commands.rt:32:5
 loop-less : tie.Need-loop-less Inv-loop μ-loop
 loop-less c = search needs
 
--- src/commands.rt:32:5
 loop-again : tie.Need-loop-again Inv-loop μ-loop
 unfolding loadsIn
 loop-again c =
@@ -70,7 +58,6 @@ loop-again c =
     ap (λ b. cond b 1 0 + loadsIn (drop (i + 1) (take n w))) e ∙ sym st in
     (omega arith, ⊎-elim (λ q. omega (arith, q .1)) (λ q. omega (arith, q .1)) (c .if1 .came), omega arith)
 
--- src/commands.rt:26:1
 returns : tie.Need-returns Inv-loop μ-loop
 unfolding loadsIn
 returns c =

@@ -9,8 +9,6 @@ use Rattle.wire.proofs.Lists.{scan-step, scan-end}
 use borrow.Author.Needs.{needs}
 use Rattle.state.proofs.limits.all_at_most.Statement.{statement}
 use Rattle.state.proofs.limits.all_at_most.Tie as tie
-use Rattle.state.proofs.limits.all_at_most.Reads as reads
-use Rattle.state.proofs.limits.all_at_most.Lts as lts
 
 abbrev Inv-loop : tie.InvT-loop
 Inv-loop a limit ok₀ i₀ ok i = (i ≤ length a) × ((ok && all (atMost limit) (drop i a)) ≡ all (atMost limit) a)
@@ -18,34 +16,27 @@ Inv-loop a limit ok₀ i₀ ok i = (i ≤ length a) × ((ok && all (atMost limit
 abbrev μ-loop : tie.MeasureT-loop
 μ-loop a limit ok₀ i₀ ok i = length a - i
 
--- src/limits.rt:14:5
 loop-holds : tie.Need-loop-holds Inv-loop μ-loop
 loop-holds c = (omega arith, refl)
 
--- src/limits.rt:15:20
 mul-ok : tie.Need-mul-ok Inv-loop μ-loop
 mul-ok c = search needs
 
--- src/limits.rt:15:20
 shared-slice-read-ok : tie.Need-shared-slice-read-ok Inv-loop μ-loop
 shared-slice-read-ok c = search needs
 
--- src/limits.rt:16:9
 add-i : tie.Need-add-i Inv-loop μ-loop
 add-i c = search needs
 
--- src/limits.rt:14:5
 loop-less : tie.Need-loop-less Inv-loop μ-loop
 loop-less c = search needs
 
--- src/limits.rt:14:5
 loop-again : tie.Need-loop-again Inv-loop μ-loop
 loop-again c =
     let l = c .before .before in
     let s = l .before in
     (omega arith, scan-step (atMost (s .args .limit)) (now (s .args .a)) 0 (l .loop .ok) (l .loop .i) (omega arith) (l .loop .inv .1))
 
--- src/limits.rt:9:1
 returns : tie.Need-returns Inv-loop μ-loop
 returns c =
     let l = c .before in

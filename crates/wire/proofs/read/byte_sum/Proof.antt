@@ -8,9 +8,6 @@ use Rattle.wire.proofs.Bytes.{total-drop, total-end}
 use borrow.Author.Needs.{needs}
 use Rattle.wire.proofs.read.byte_sum.Statement.{statement}
 use Rattle.wire.proofs.read.byte_sum.Tie as tie
-use Rattle.wire.proofs.read.byte_sum.Reads as reads
-use Rattle.wire.proofs.read.byte_sum.Lts as lts
-use Rattle.wire.proofs.read.wide.Reads as wide-reads
 
 abbrev Inv-loop : tie.InvT-loop
 Inv-loop part sum₀ i₀ sum i = (i ≤ length part) × (sum ≤ 255 * i) × (sum + total (drop i part) ≡ total part)
@@ -18,37 +15,29 @@ Inv-loop part sum₀ i₀ sum i = (i ≤ length part) × (sum ≤ 255 * i) × (s
 abbrev μ-loop : tie.MeasureT-loop
 μ-loop part sum₀ i₀ sum i = length part - i
 
--- src/read.rt:46:5
 loop-holds : tie.Need-loop-holds Inv-loop μ-loop
 loop-holds c = search needs
 
--- src/read.rt:47:26
 shared-slice-read-wide : tie.Need-shared-slice-read-wide Inv-loop μ-loop
 shared-slice-read-wide c = search needs
 
--- src/read.rt:47:21
 wide-requires : tie.Need-wide-requires Inv-loop μ-loop
 wide-requires c κs = search needs
 
--- src/read.rt:47:15
 add-sum : tie.Need-add-sum Inv-loop μ-loop
 add-sum c = search needs
 
--- src/read.rt:48:9
 add-i : tie.Need-add-i Inv-loop μ-loop
 add-i c = search needs
 
--- src/read.rt:46:5
 loop-less : tie.Need-loop-less Inv-loop μ-loop
 loop-less c = search needs
 
--- src/read.rt:46:5
 loop-again : tie.Need-loop-again Inv-loop μ-loop
 loop-again c =
     let l = c .before .before .before in
     (omega arith, omega arith, omega (arith, total-drop (now (l .before .before .args .part)) (l .loop .i) (omega arith)))
 
--- src/read.rt:40:1
 returns : tie.Need-returns Inv-loop μ-loop
 returns c =
     let l = c .before in

@@ -8,46 +8,34 @@ use Rattle.wire.proofs.Bytes.{put-sets}
 use borrow.Author.Needs.{needs}
 use Rattle.wire.proofs.write.put_u24.Statement.{statement}
 use Rattle.wire.proofs.write.put_u24.Tie as tie
-use Rattle.wire.proofs.write.put_u24.Reads as reads
-use Rattle.wire.proofs.write.put_u24.Lts as lts
 
--- src/write.rt:30:16
 cast-part : tie.Need-cast-part
 cast-part c = search needs
 
--- src/write.rt:30:5
 slice-write-part : tie.Need-slice-write-part
 slice-write-part c = search needs
 
--- src/write.rt:31:20
 cast-part-2 : tie.Need-cast-part-2
 cast-part-2 c = search needs
 
--- src/write.rt:31:10
 add-part : tie.Need-add-part
 add-part c = search needs
 
--- src/write.rt:31:5
 slice-write-part-2 : tie.Need-slice-write-part-2
 slice-write-part-2 c = simp length-set (omega arith)
 
--- src/write.rt:32:20
 cast-part-3 : tie.Need-cast-part-3
 cast-part-3 c = search needs
 
--- src/write.rt:32:10
 add-part-2 : tie.Need-add-part-2
 add-part-2 c = search needs
 
--- src/write.rt:32:5
 slice-write-part-3 : tie.Need-slice-write-part-3
 slice-write-part-3 c = simp length-set (omega arith)
 
--- src/write.rt:25:1
 same-length : tie.Need-same-length
 same-length c = search needs
 
--- src/write.rt:25:1
 returns : tie.Need-returns
 returns c =
     let a = c .args in

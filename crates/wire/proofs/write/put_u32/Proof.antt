@@ -1,7 +1,6 @@
 use borrow.Author.Needs.{needs}
-use Prim.Native.Nat.{suc, _+_, _/_, _%_}
+use Prim.Native.Nat.{suc, _+_}
 use mathlib.Core.Path.{_≡_}
-use mathlib.Core.List.{[], _∷_}
 use native.Mathlib.Omega.{arith}
 use lib.ListN.{length-set}
 use denote.Ref.{now}
@@ -9,58 +8,43 @@ use Rattle.wire.specs.Bytes.{be32}
 use Rattle.wire.proofs.Bytes.{put-sets}
 use Rattle.wire.proofs.write.put_u32.Statement.{statement}
 use Rattle.wire.proofs.write.put_u32.Tie as tie
-use Rattle.wire.proofs.write.put_u32.Reads as reads
-use Rattle.wire.proofs.write.put_u32.Lts as lts
 
--- src/lib.rt:22:16
 cast-part : tie.Need-cast-part
 cast-part c = search needs
 
--- src/lib.rt:22:5
 slice-write-part : tie.Need-slice-write-part
 slice-write-part c = search needs
 
--- src/lib.rt:23:20
 cast-part-2 : tie.Need-cast-part-2
 cast-part-2 c = search needs
 
--- src/lib.rt:23:10
 add-part : tie.Need-add-part
 add-part c = search needs
 
--- src/lib.rt:23:5
 slice-write-part-2 : tie.Need-slice-write-part-2
 slice-write-part-2 c = simp length-set (omega arith)
 
--- src/lib.rt:24:20
 cast-part-3 : tie.Need-cast-part-3
 cast-part-3 c = search needs
 
--- src/lib.rt:24:10
 add-part-2 : tie.Need-add-part-2
 add-part-2 c = search needs
 
--- src/lib.rt:24:5
 slice-write-part-3 : tie.Need-slice-write-part-3
 slice-write-part-3 c = simp length-set (omega arith)
 
--- src/lib.rt:25:20
 cast-part-4 : tie.Need-cast-part-4
 cast-part-4 c = search needs
 
--- src/lib.rt:25:10
 add-part-3 : tie.Need-add-part-3
 add-part-3 c = search needs
 
--- src/lib.rt:25:5
 slice-write-part-4 : tie.Need-slice-write-part-4
 slice-write-part-4 c = simp length-set (omega arith)
 
--- src/lib.rt:18:1
 same-length : tie.Need-same-length
 same-length c = search needs
 
--- src/lib.rt:18:1
 returns : tie.Need-returns
 returns c =
     let a = c .args in

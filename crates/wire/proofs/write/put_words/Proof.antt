@@ -1,5 +1,5 @@
 use borrow.Author.Needs.{needs}
-use Prim.Native.Nat.{ℕ, suc, _≤_, _<_, _-_, _+_, _*_, _%_}
+use Prim.Native.Nat.{ℕ, _≤_, _-_, _+_, _*_}
 use mathlib.Core.Path.{_≡_, ap, refl, sym, _∙_}
 use mathlib.Core.List.{List}
 use native.Mathlib.Omega.{arith}
@@ -7,12 +7,9 @@ use lib.ListN.{length, take, getD}
 use lib.Seq.{take-all}
 use denote.Ref.{now}
 use Rattle.wire.specs.Bytes.{put, be32, words}
-use Rattle.wire.proofs.Bytes.{put-put, put-nil, length-put, words-take, length-words-take}
+use Rattle.wire.proofs.Bytes.{put-put, put-nil, words-take, length-words-take}
 use Rattle.wire.proofs.write.put_words.Statement.{statement}
 use Rattle.wire.proofs.write.put_words.Tie as tie
-use Rattle.wire.proofs.write.put_words.Reads as reads
-use Rattle.wire.proofs.write.put_words.Lts as lts
-use Rattle.wire.proofs.write.put_u32.Reads as put-u32-reads
 
 abbrev Inv-loop : tie.InvT-loop
 Inv-loop part₀ at ws i₀ part i = (i ≤ length ws) × ((part ≡ put part₀ at (words (take i ws))) × (length part ≡ length part₀))
@@ -20,40 +17,31 @@ Inv-loop part₀ at ws i₀ part i = (i ≤ length ws) × ((part ≡ put part₀
 abbrev μ-loop : tie.MeasureT-loop
 μ-loop part₀ at ws i₀ part i = length ws - i
 
--- src/lib.rt:54:5
 loop-holds : tie.Need-loop-holds Inv-loop μ-loop
 unfolding words
 loop-holds c = (omega arith, (put-nil _ _, refl))
 
--- src/lib.rt:55:28
 mul-put-u32 : tie.Need-mul-put-u32 Inv-loop μ-loop
 mul-put-u32 c = search needs
 
--- src/lib.rt:55:23
 add-put-u32 : tie.Need-add-put-u32 Inv-loop μ-loop
 add-put-u32 c = search needs
 
--- src/lib.rt:55:35
 mul-put-u32-2 : tie.Need-mul-put-u32-2 Inv-loop μ-loop
 mul-put-u32-2 c = search needs
 
--- src/lib.rt:55:35
 shared-slice-read-put-u32 : tie.Need-shared-slice-read-put-u32 Inv-loop μ-loop
 shared-slice-read-put-u32 c = search needs
 
--- src/lib.rt:55:9
 put-u32-requires : tie.Need-put-u32-requires Inv-loop μ-loop
 put-u32-requires c κs = search needs
 
--- src/lib.rt:56:9
 add-i : tie.Need-add-i Inv-loop μ-loop
 add-i c = search needs
 
--- src/lib.rt:54:5
 loop-less : tie.Need-loop-less Inv-loop μ-loop
 loop-less c = search needs
 
--- src/lib.rt:54:5
 loop-again : tie.Need-loop-again Inv-loop μ-loop
 loop-again c =
     let l = c .before .before .before .before .before .before in
@@ -72,11 +60,9 @@ loop-again c =
       ),
     )
 
--- src/lib.rt:49:1
 same-length : tie.Need-same-length Inv-loop μ-loop
 same-length c = search needs
 
--- src/lib.rt:49:1
 returns : tie.Need-returns Inv-loop μ-loop
 returns c =
     let l = c .before in

@@ -1,19 +1,13 @@
 use Prim.Native.Nat.{ℕ, _≤_, _-_, _+_}
-use mathlib.Core.Path.{_≡_, refl, sym, ap, _∙_}
-use mathlib.Core.List.{List, _++_}
+use mathlib.Core.Path.{_≡_, refl, ap, _∙_}
 use native.Mathlib.Omega.{arith}
-use native.Mathlib.Numerals.{add-one}
-use lib.ListN.{length, take, getD, length-replicate}
-use lib.Seq.{take-all, take-suc, length-take-le}
+use lib.ListN.{length, length-replicate}
 use denote.Ref.{now}
 use Rattle.wire.specs.Bytes.{put, one, zeros}
 use Rattle.wire.proofs.Bytes.{then, put-nil, zeros-more}
 use borrow.Author.Needs.{needs}
 use Rattle.wire.proofs.write.put_zeros.Statement.{statement}
 use Rattle.wire.proofs.write.put_zeros.Tie as tie
-use Rattle.wire.proofs.write.put_zeros.Reads as reads
-use Rattle.wire.proofs.write.put_zeros.Lts as lts
-use Rattle.wire.proofs.write.put_u8.Reads as put-u8-reads
 
 abbrev Inv-loop : tie.InvT-loop
 Inv-loop part₀ from to i₀ part i = (from ≤ i) × (i ≤ to) × (part ≡ put part₀ from (zeros (i - from))) × (length part ≡ length part₀)
@@ -21,26 +15,21 @@ Inv-loop part₀ from to i₀ part i = (from ≤ i) × (i ≤ to) × (part ≡ p
 abbrev μ-loop : tie.MeasureT-loop
 μ-loop part₀ from to i₀ part i = to - i
 
--- src/write.rt:76:5
 loop-holds : tie.Need-loop-holds Inv-loop μ-loop
 loop-holds c =
     let s = c .before .args in
     let e : s .from - s .from ≡ 0 = omega arith in
     (omega arith, omega arith, rw e (put-nil _ _), refl)
 
--- src/write.rt:77:9
 put-u8-requires : tie.Need-put-u8-requires Inv-loop μ-loop
 put-u8-requires c κs = search needs
 
--- src/write.rt:78:9
 add-i : tie.Need-add-i Inv-loop μ-loop
 add-i c = search needs
 
--- src/write.rt:76:5
 loop-less : tie.Need-loop-less Inv-loop μ-loop
 loop-less c = search needs
 
--- src/write.rt:76:5
 loop-again : tie.Need-loop-again Inv-loop μ-loop
 loop-again c =
     let l = c .before .before .before .before .before in
@@ -57,11 +46,9 @@ loop-again c =
       omega arith,
     )
 
--- src/write.rt:71:1
 same-length : tie.Need-same-length Inv-loop μ-loop
 same-length c = search needs
 
--- src/write.rt:71:1
 returns : tie.Need-returns Inv-loop μ-loop
 returns c =
     let l = c .before in

@@ -1,8 +1,9 @@
--- Lists made of numbered or equal pieces. Assumes nothing.
-use Prim.Native.Nat.{ℕ, zero, suc}
+-- Lists made of numbered or equal pieces, or filled up to a length. Assumes nothing.
+use Prim.Native.Nat.{ℕ, zero, suc, _-_}
 use mathlib.Core.Bool.{Bool, true, _&&_}
 use mathlib.Core.List.{List, [], _∷_, _++_}
+use lib.ListN.{length, replicate}
 use Rattle.wire.specs.Bytes.{one}
 
 -- the pieces of the list's elements, one after the other
 unfoldable pub runs : (ℕ → List ℕ) → List ℕ → List ℕ
@@ -18,3 +19,11 @@ table (suc n) f = table n f ++ one (f n)
 unfoldable pub each : ℕ → (ℕ → Bool) → Bool
 each zero p = true
 each (suc n) p = each n p && p n
+
+-- the list with x behind it, n elements in all
+abbrev pub filledUp : {A : Type 0} → ℕ → A → List A → List A
+filledUp n x l = l ++ replicate (n - length l) x
+
+-- the list with zeros behind it, n numbers in all
+unfoldable pub padded : ℕ → List ℕ → List ℕ
+padded n l = filledUp n 0 l

@@ -1,36 +1,18 @@
--- Laws of lists: their elements, and lists made of numbered or equal pieces. Assumes nothing.
+-- Laws of lists made of numbered or equal pieces, or filled up to a length. Assumes nothing.
 use mathlib.Core.Path.{_≡_, refl, sym, ap, _∙_}
 use mathlib.Core.Bool.{Bool, true, _&&_}
-use mathlib.Core.List.{List, [], _∷_, _++_, map, append-assoc, append-nil}
-use Prim.Native.Nat.{ℕ, zero, suc, _+_, _*_, _≤_, _<_}
+use mathlib.Core.List.{List, [], _∷_, _++_, append-assoc, append-nil}
+use Prim.Native.Nat.{ℕ, zero, suc, _+_, _-_, _*_, _≤_, _<_}
 use native.Mathlib.Omega.{arith}
 use native.Mathlib.Nat.{eq-or-lt-of-le}
 use native.Mathlib.Numerals.{add-one}
 use mathlib.Core.Logic.{⊎-elim}
-use lib.ListN.{length, take, getD, set, length-append, List·getD-append}
-use lib.Seq.{take-suc, take-suc-set, take-all, length-take-le, getD-append-add, ext-getD, getD-at}
-use Rattle.wire.specs.Bytes.{one, total, words, be32}
-use Rattle.wire.specs.Lists.{EachBelow, all}
+use lib.ListN.{length, take, getD, set, replicate, length-append, length-replicate, length-set, List·getD-append}
+use lib.Seq.{take-suc, take-suc-set, take-all, length-take-le, getD-append-add, ext-getD, getD-at, set-append-seam, set-append-left, append-snoc}
+use Rattle.wire.specs.Bytes.{one, zeros, total, words, be32}
 use Rattle.wire.proofs.Bytes.{total-append}
-use Rattle.wire.proofs.Lists.{and-left, and-right, and-split}
-use Rattle.packet.specs.Lists.{runs, table, each}
-
--- ---- elements of lists
-
-pub below-append : (n : ℕ) (a b : List ℕ) → EachBelow n a → EachBelow n b → EachBelow n (a ++ b)
-below-append n [] b ha hb k = hb k
-below-append n (x ∷ a) b ha hb zero = ha 0
-below-append n (x ∷ a) b ha hb (suc k) = below-append n a b (λ i. ha (suc i)) hb k
-
-pub map-at : (f : ℕ → ℕ) (xs : List ℕ) (i : ℕ) → i < length xs → getD (map f xs) i 0 ≡ f (getD xs i 0)
-map-at f [] i h = absurd (omega arith)
-map-at f (x ∷ xs) zero h = refl
-map-at f (x ∷ xs) (suc i) h = map-at f xs i (omega arith)
-
-pub all-get : (p : ℕ → Bool) (xs : List ℕ) (i : ℕ) → i < length xs → all p xs ≡ true → p (getD xs i 0) ≡ true
-all-get p [] i h e = absurd (omega arith)
-all-get p (x ∷ xs) zero h e = and-left (p x) (all p xs) e
-all-get p (x ∷ xs) (suc i) h e = all-get p xs i (omega arith) (and-right (p x) (all p xs) e)
+use Rattle.wire.proofs.Lists.{and-split}
+use Rattle.wire.specs.Pieces.{runs, table, each, filledUp, padded}
 
 -- ---- runs
 
@@ -149,3 +131,31 @@ module _ (p : ℕ → Bool) where
   unfolding each
   each-all zero h = refl
   each-all (suc n) h = rw (each-all n (λ i l. h i (omega arith)), h n (omega arith))
+
+-- ---- filled up
+
+module _ {A : Type 0} (n : ℕ) (d : A) where
+  -- one more at the end of what is filled up
+  pub filled-set : (x : A) (l : List A) → length l < n → set (filledUp n d l) (length l) x ≡ filledUp n d (l ++ x ∷ [])
+  filled-set x l h =
+      let e₁ : n - length l ≡ suc (n - suc (length l)) = omega arith in
+      let e₂ : n - (length l + 1) ≡ n - suc (length l) = omega arith in
+      rw (length-append, e₂, e₁, set-append-seam, append-snoc)
+
+module _ (n : ℕ) where
+  pub padded-fill : (l : List ℕ) (x : ℕ) → length l < n → set (padded n l) (length l) x ≡ padded n (l ++ x ∷ [])
+  unfolding padded
+  padded-fill l x h = filled-set n 0 x l h
+
+  pub padded-set : (l : List ℕ) (i x : ℕ) → i < length l → set (padded n l) i x ≡ padded n (set l i x)
+  unfolding padded
+  padded-set l i x h = rw (set-append-left l (replicate (n - length l) 0) i x h, length-set)
+
+  -- zeros to the end make a list padded
+  pub padded-is : (k : ℕ) (l : List ℕ) → length l ≡ k → padded n l ≡ l ++ zeros (n - k)
+  unfolding padded
+  padded-is k l e = ap (λ (m : ℕ). l ++ zeros (n - m)) e
+
+  pub length-padded : (l : List ℕ) → length l ≤ n → length (padded n l) ≡ n
+  unfolding padded
+  length-padded l h = length-append l (zeros (n - length l)) ∙ omega (arith, length-replicate {A = ℕ} (n - length l) 0)
