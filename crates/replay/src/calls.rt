@@ -111,12 +111,12 @@ fn print_close(text: &mut [u8], at: &mut usize, frame: u16, closed: Closed, pack
     }
 }
 
+// The packets are printed only where the close has filled them whole.
 fn close(
     state: State,
     tables: &mut [u8],
     staging: &[u8],
     slots: &mut [u32],
-    packets: &mut [u8],
     body: &[u8],
     text: &mut [u8],
     at: &mut usize,
@@ -124,8 +124,9 @@ fn close(
     requires { ⌜ length (now body) ≡ 4 ⌝ }
 {
     let time = wire::read::u32_at(body, 0);
-    let closed = processor::close::close(state, time, tables, staging, slots, packets);
-    print_close(text, at, state.frame, closed, packets);
+    let mut packets = [0u8; processor::packets::OUT_BYTES];
+    let closed = processor::close::close(state, time, tables, staging, slots, &mut packets);
+    print_close(text, at, state.frame, closed, &packets);
     closed.state
 }
 
@@ -136,7 +137,6 @@ pub fn carry_out(
     tables: &mut [u8],
     staging: &mut [u8],
     slots: &mut [u32],
-    packets: &mut [u8],
     echo: &mut [u8],
     body: &[u8],
     text: &mut [u8],
@@ -148,7 +148,7 @@ pub fn carry_out(
         stream::record::EVENT => event(state, tables, slots, body, text, at),
         stream::record::READING => reading(state, body, text, at),
         stream::record::LINE => line(state, echo, body, text, at),
-        stream::record::CLOSE => close(state, tables, staging, slots, packets, body, text, at),
+        stream::record::CLOSE => close(state, tables, staging, slots, body, text, at),
         PACKAGE => package(state, staging, echo, body, text, at),
         _ => {
             print_packet(text, at, body);

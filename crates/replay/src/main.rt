@@ -10,6 +10,7 @@ use stream::input::Input;
 use stream::record::MOST_RECORDS;
 use stream::record::Next;
 use stream::record::Step;
+use stream::record::bad;
 use stream::record::going_on;
 use stream::record::left;
 use stream::record::stopped;
@@ -21,7 +22,6 @@ fn step(
     tables: &mut [u8],
     staging: &mut [u8],
     slots: &mut [u32],
-    packets: &mut [u8],
     echo: &mut [u8],
     buffer: &mut [u8],
     text: &mut [u8],
@@ -33,30 +33,12 @@ fn step(
     let found = records::next(buffer, input);
     match found {
         Next::End => stopped(state),
-        Next::Bad => {
-            stream::text::bad_record(text, at);
-            stopped(state)
-        }
-        Next::Record {
-            kind,
-            from,
-            to,
-            end,
-        } => {
+        Next::Bad => bad(state, text, at),
+        Next::Record { kind, from, rest } => {
+            let to = rest.at;
             let body = &buffer[from..to];
-            let after = calls::carry_out(
-                kind,
-                state,
-                tables,
-                staging,
-                slots,
-                packets,
-                echo,
-                body,
-                text,
-                at,
-            );
-            going_on(after, to, end)
+            let after = calls::carry_out(kind, state, tables, staging, slots, echo, body, text, at);
+            going_on(after, rest)
         }
     }
 }
@@ -66,7 +48,6 @@ fn run(
     tables: &mut [u8],
     staging: &mut [u8],
     slots: &mut [u32],
-    packets: &mut [u8],
     echo: &mut [u8],
     buffer: &mut [u8],
     text: &mut [u8],
@@ -82,7 +63,6 @@ fn run(
             tables,
             staging,
             slots,
-            packets,
             echo,
             buffer,
             text,
@@ -103,7 +83,6 @@ fn main() {
     }
     let mut staging = [0u8; load::staging::STAGING_BYTES];
     let mut slots = [0u32; settings::SLOTS as usize];
-    let mut packets = [0u8; processor::packets::OUT_BYTES];
     let mut echo = [0u8; command::echo::ECHO_BYTES];
     let mut buffer = [0u8; stream::input::INPUT_BYTES];
     let mut text = [0u8; stream::text::TEXT_BYTES];
@@ -111,7 +90,6 @@ fn main() {
         &mut tables,
         &mut staging,
         &mut slots,
-        &mut packets,
         &mut echo,
         &mut buffer,
         &mut text,

@@ -4,13 +4,14 @@ use mathlib.Core.List.{List, [], _∷_}
 use mathlib.Core.Path.{_≡_}
 use Prim.Native.Nat.{ℕ, _-_, _/_, _%_, _≤_}
 use lib.Dec.{eqb, leb}
-use lib.ListN.{length, getD}
+use lib.ListN.{getD}
 use Rattle.wire.specs.Bytes.{at16}
 use Rattle.sort.specs.declared.event.Event.{Event}
 use Rattle.state.specs.declared.State.{State}
 use Rattle.processor.specs.declared.Answer.{Answer}
 use Rattle.processor.specs.Answer.{answered}
 use Rattle.processor.specs.Event.{eventAnswer, eventSlots}
+use Rattle.stream.specs.Input.{Held}
 use Rattle.stream.specs.declared.record.Next.{Next}
 use Rattle.stream.specs.declared.record.Next.the-variants.{End, Bad, Record}
 
@@ -22,7 +23,7 @@ LongAs kind n = (kind ≡ 1 → n ≡ 7) × (kind ≡ 2 → n ≡ 16) × (kind �
 abbrev pub FoundIn : Next → List ℕ → Type 0
 FoundIn End buffer = Unit {0}
 FoundIn Bad buffer = Unit {0}
-FoundIn (Record kind from to end) buffer = (1 ≤ from) × (from ≤ to) × (to ≤ end) × (end ≤ length buffer) × LongAs kind (to - from)
+FoundIn (Record kind from rest) buffer = (1 ≤ from) × (from ≤ rest .at) × Held rest buffer × LongAs kind (rest .at - from)
 
 -- ---- an event's body: "t, high, low, flags FLG0 1, FLG1 2, error 4, valid stop 8"
 

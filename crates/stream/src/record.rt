@@ -16,13 +16,8 @@ pub enum Next {
     End,
     // No kind, or a short body.
     Bad,
-    // A record, its body in the buffer from `from` to before `to`; the bytes from there to before `end` are not yet used.
-    Record {
-        kind: u8,
-        from: usize,
-        to: usize,
-        end: usize,
-    },
+    // A record: its body lies in the buffer from `from` to before `rest.at`, and `rest` is the input behind it.
+    Record { kind: u8, from: usize, rest: Input },
 }
 
 // Where a program stands after a record: the state, the input, and whether there is more to do.
@@ -43,13 +38,13 @@ pub fn left(records: u64, more: bool) -> u64
     if more { records - 1 } else { 0 }
 }
 
-// The program goes on with the input from `at` on.
-pub fn going_on(state: State, at: usize, end: usize) -> Step
-    ensures { λ r. ⌜ (r .input .at ≡ at) × (r .input .end ≡ end) ⌝ }
+// The program goes on with this input.
+pub fn going_on(state: State, input: Input) -> Step
+    ensures { λ r. ⌜ (r .input .at ≡ input .at) × (r .input .end ≡ input .end) ⌝ }
 {
     Step {
         state,
-        input: Input { at, end },
+        input,
         more: true,
     }
 }
@@ -64,6 +59,14 @@ pub fn stopped(state: State) -> Step
         input: input,
         more: false,
     }
+}
+
+// A bad record is printed, and ends the program.
+pub fn bad(state: State, text: &mut [u8], at: &mut usize) -> Step
+    ensures { λ r. ⌜ (r .input .at ≤ 0) × (r .input .end ≤ 0) ⌝ }
+{
+    crate::text::bad_record(text, at);
+    stopped(state)
 }
 
 // The kinds.
@@ -95,12 +98,9 @@ pub fn whole(buffer: &mut [u8], input: Input, kind: u8, head: usize, n: usize) -
     if end - at < head + n {
         return Next::Bad;
     }
-    Next::Record {
-        kind,
-        from: at + head,
-        to: at + head + n,
-        end,
-    }
+    let from = at + head;
+    let rest = Input { at: from + n, end };
+    Next::Record { kind, from, rest }
 }
 
 // The flags' values in an event's last byte, and the largest that they make.

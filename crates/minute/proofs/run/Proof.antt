@@ -6,10 +6,10 @@ use Rattle.minute.proofs.run.Statement.{statement}
 use Rattle.minute.proofs.run.Tie as tie
 
 abbrev Inv-loop : tie.InvT-loop
-Inv-loop tables₀ staging slots₀ packets₀ echo₀ buffer₀ text₀ state₀ input₀ at₀ records₀ tables slots packets echo buffer text state input at records = (length tables ≡ length tables₀) × (length slots ≡ length slots₀) × (length packets ≡ length packets₀) × (length echo ≡ length echo₀) × (length buffer ≡ length buffer₀) × (length text ≡ length text₀) × Held input buffer
+Inv-loop tables₀ staging slots₀ buffer₀ text₀ state₀ input₀ at₀ records₀ tables slots buffer text state input at records = (length tables ≡ length tables₀) × (length slots ≡ length slots₀) × (length buffer ≡ length buffer₀) × (length text ≡ length text₀) × Held input buffer
 
 abbrev μ-loop : tie.MeasureT-loop
-μ-loop tables₀ staging slots₀ packets₀ echo₀ buffer₀ text₀ state₀ input₀ at₀ records₀ tables slots packets echo buffer text state input at records = records
+μ-loop tables₀ staging slots₀ buffer₀ text₀ state₀ input₀ at₀ records₀ tables slots buffer text state input at records = records
 
 fresh-requires : tie.Need-fresh-requires Inv-loop μ-loop
 fresh-requires c κs = search needs
@@ -47,12 +47,6 @@ same-length-3 c = search needs
 same-length-4 : tie.Need-same-length-4 Inv-loop μ-loop
 same-length-4 c = search needs
 
-same-length-5 : tie.Need-same-length-5 Inv-loop μ-loop
-same-length-5 c = search needs
-
-same-length-6 : tie.Need-same-length-6 Inv-loop μ-loop
-same-length-6 c = search needs
-
 returns : tie.Need-returns Inv-loop μ-loop
 returns c = search needs
 
@@ -74,6 +68,4 @@ run-spec =
     same-length-2
     same-length-3
     same-length-4
-    same-length-5
-    same-length-6
     returns)

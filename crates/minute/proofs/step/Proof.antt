@@ -1,5 +1,7 @@
-use mathlib.Core.Path.{subst}
+use mathlib.Core.Path.{subst, ap}
+use mathlib.Core.Logic.{⊎-elim}
 use native.Mathlib.Omega.{arith}
+use lib.ListN.{length}
 use Rattle.stream.specs.Record.{LongAs, FoundIn}
 use Rattle.stream.specs.declared.record.Next.{Next}
 use Rattle.stream.specs.declared.record.Next.the-variants.{Record}
@@ -11,11 +13,7 @@ use Rattle.minute.proofs.step.Tie as tie
 lies :
     (c : tie.After-found) →
     FoundIn
-    (Record
-    (c .found .given .0 .0)
-    (c .found .given .0 .1 .0)
-    (c .found .given .0 .1 .1 .0)
-    (c .found .given .0 .1 .1 .1 .0))
+    (Record (c .found .given .0 .0) (c .found .given .0 .1 .0) (c .found .given .0 .1 .1 .0))
     (c .before .before .before .before .next .last .0)
 lies c =
     let n = c .before .before .before .before .next in
@@ -33,20 +31,17 @@ stopped-requires c κs = search needs
 enum-told-2 : tie.Need-enum-told-2
 enum-told-2 c = search needs
 
-bad-record-requires : tie.Need-bad-record-requires
-bad-record-requires c κs = search needs
-
-stopped-requires-2 : tie.Need-stopped-requires-2
-stopped-requires-2 c κs = search needs
+bad-requires : tie.Need-bad-requires
+bad-requires c κs = search needs
 
 enum-known-found : tie.Need-enum-known-found
 enum-known-found c = search needs
 
-sub-events : tie.Need-sub-events
-sub-events c = lies (c .before .before) .0
+sub-t24 : tie.Need-sub-t24
+sub-t24 c = lies (c .before .before) .0
 
 events-requires : tie.Need-events-requires
-events-requires c κs = let l = lies (c .before .before .before .before .before .before .before) in omega (arith, l .1, l .2, l .3)
+events-requires c κs = let l = lies (c .before .before .before .before .before .before .before) in omega (arith, l .1, l .2)
 
 same-length : tie.Need-same-length
 same-length c = search needs
@@ -70,13 +65,13 @@ part-body-start : tie.Need-part-body-start
 part-body-start c = lies (c .before .before .before) .1
 
 part-body-end : tie.Need-part-body-end
-part-body-end c = let l = lies (c .before .before .before) in omega (arith, l .2, l .3)
+part-body-end c = omega (arith, lies (c .before .before .before) .2)
 
 carry-out-requires : tie.Need-carry-out-requires
 carry-out-requires c κs =
-    let b = c .before .before .before .before .before .before in
+    let b = c .before .before .before .before in
     let f = b .before .before .before .before in
-    subst (LongAs (f .found .given .0 .0)) (b .body .given .1) (lies f .4)
+    subst (LongAs (f .found .given .0 .0)) (b .body .given .1) (lies f .3)
 
 print-refusal-requires : tie.Need-print-refusal-requires
 print-refusal-requires c κs = search needs
@@ -106,21 +101,21 @@ same-length-9 : tie.Need-same-length-9
 same-length-9 c = search needs
 
 same-length-10 : tie.Need-same-length-10
-same-length-10 c = search needs
+same-length-10 c =
+    c .before .before .before .before .before .before .before .before .before .before .before .before .before .before .before .before .before .before .before .before .before .before .next .kept .0
 
 same-length-11 : tie.Need-same-length-11
-same-length-11 c = search needs
-
-same-length-12 : tie.Need-same-length-12
-same-length-12 c = c .before .before .before .before .before .before .before .before .before .before .before .before .before .before .before .before .before .before .before .before .before .before .before .before .before .before .before .before .before .before .before .next .kept .0
-
-same-length-13 : tie.Need-same-length-13
-same-length-13 c = search needs
+same-length-11 c =
+    let k = c .before .before .before .before .before .before .before .before .before .carry-out .kept in
+    ⊎-elim
+    (λ w. omega (arith, w .3 .kept .0, ap length (w .6), k))
+    (λ w. omega (arith, ap length (w .1), k))
+    (c .before .if2 .came)
 
 returns-4 : tie.Need-returns-4
 returns-4 c =
-    let l = lies (c .before .before .before .before .before .before .before .before .before .before .before .before .before .before .before .before .before .before .before .before .before .before .before .before .before .before .before) in
-    omega (arith, c .going-on .ensures, l .2, l .3)
+    let l = lies (c .before .before .before .before .before .before .before .before .before .before .before .before .before .before .before .before .before .before) in
+    omega (arith, c .going-on .ensures, l .2)
 
 pub step-spec : {M : Type 1} → statement M
 step-spec =
@@ -130,10 +125,9 @@ step-spec =
     enum-told
     stopped-requires
     enum-told-2
-    bad-record-requires
-    stopped-requires-2
+    bad-requires
     enum-known-found
-    sub-events
+    sub-t24
     events-requires
     same-length
     same-length-2
@@ -155,6 +149,4 @@ step-spec =
     same-length-9
     same-length-10
     same-length-11
-    same-length-12
-    same-length-13
     returns-4)

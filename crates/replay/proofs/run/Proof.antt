@@ -1,5 +1,4 @@
 use mathlib.Core.Path.{_≡_}
-use native.Mathlib.Omega.{arith}
 use lib.ListN.{length}
 use Rattle.stream.specs.Input.{Held}
 use borrow.Author.Needs.{needs}
@@ -7,10 +6,10 @@ use Rattle.replay.proofs.run.Statement.{statement}
 use Rattle.replay.proofs.run.Tie as tie
 
 abbrev Inv-loop : tie.InvT-loop
-Inv-loop tables₀ staging₀ slots₀ packets₀ echo₀ buffer₀ text₀ state₀ input₀ at₀ records₀ tables staging slots packets echo buffer text state input at records = (length tables ≡ length tables₀) × (length staging ≡ length staging₀) × (length slots ≡ length slots₀) × (length packets ≡ length packets₀) × (length echo ≡ length echo₀) × (length buffer ≡ length buffer₀) × (length text ≡ length text₀) × Held input buffer
+Inv-loop tables₀ staging₀ slots₀ echo₀ buffer₀ text₀ state₀ input₀ at₀ records₀ tables staging slots echo buffer text state input at records = (length tables ≡ length tables₀) × (length staging ≡ length staging₀) × (length slots ≡ length slots₀) × (length echo ≡ length echo₀) × (length buffer ≡ length buffer₀) × (length text ≡ length text₀) × Held input buffer
 
 abbrev μ-loop : tie.MeasureT-loop
-μ-loop tables₀ staging₀ slots₀ packets₀ echo₀ buffer₀ text₀ state₀ input₀ at₀ records₀ tables staging slots packets echo buffer text state input at records = records
+μ-loop tables₀ staging₀ slots₀ echo₀ buffer₀ text₀ state₀ input₀ at₀ records₀ tables staging slots echo buffer text state input at records = records
 
 fresh-requires : tie.Need-fresh-requires Inv-loop μ-loop
 fresh-requires c κs = search needs
@@ -31,9 +30,7 @@ loop-less : tie.Need-loop-less Inv-loop μ-loop
 loop-less c = search needs
 
 loop-again : tie.Need-loop-again Inv-loop μ-loop
-loop-again c =
-    let s = c .before .before .before .before .before .before .before .before .before .before .before .before .before .before .before .before .before in
-    omega (arith, s .step, s .before .before .before .before .before .before .before .before .before .before .loop .inv)
+loop-again c = search needs
 
 flush-requires : tie.Need-flush-requires Inv-loop μ-loop
 flush-requires c κs = search needs
@@ -55,9 +52,6 @@ same-length-5 c = search needs
 
 same-length-6 : tie.Need-same-length-6 Inv-loop μ-loop
 same-length-6 c = search needs
-
-same-length-7 : tie.Need-same-length-7 Inv-loop μ-loop
-same-length-7 c = search needs
 
 returns : tie.Need-returns Inv-loop μ-loop
 returns c = search needs
@@ -82,5 +76,4 @@ run-spec =
     same-length-4
     same-length-5
     same-length-6
-    same-length-7
     returns)

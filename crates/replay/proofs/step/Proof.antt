@@ -11,11 +11,7 @@ use Rattle.replay.proofs.step.Tie as tie
 lies :
     (c : tie.After-found) →
     FoundIn
-    (Record
-    (c .found .given .0 .0)
-    (c .found .given .0 .1 .0)
-    (c .found .given .0 .1 .1 .0)
-    (c .found .given .0 .1 .1 .1 .0))
+    (Record (c .found .given .0 .0) (c .found .given .0 .1 .0) (c .found .given .0 .1 .1 .0))
     (c .before .before .before .before .next .last .0)
 lies c =
     let n = c .before .before .before .before .next in
@@ -33,11 +29,8 @@ stopped-requires c κs = search needs
 enum-told-2 : tie.Need-enum-told-2
 enum-told-2 c = search needs
 
-bad-record-requires : tie.Need-bad-record-requires
-bad-record-requires c κs = search needs
-
-stopped-requires-2 : tie.Need-stopped-requires-2
-stopped-requires-2 c κs = search needs
+bad-requires : tie.Need-bad-requires
+bad-requires c κs = search needs
 
 enum-known-found : tie.Need-enum-known-found
 enum-known-found c = search needs
@@ -49,13 +42,13 @@ part-body-start : tie.Need-part-body-start
 part-body-start c = lies (c .before .before) .1
 
 part-body-end : tie.Need-part-body-end
-part-body-end c = let l = lies (c .before .before) in omega (arith, l .2, l .3)
+part-body-end c = omega (arith, lies (c .before .before) .2)
 
 carry-out-requires : tie.Need-carry-out-requires
 carry-out-requires c κs =
-    let b = c .before .before .before .before .before .before .before in
+    let b = c .before .before .before .before .before .before in
     let f = b .before .before .before in
-    subst (LongAs (f .found .given .0 .0)) (b .body .given .1) (lies f .4)
+    subst (LongAs (f .found .given .0 .0)) (b .body .given .1) (lies f .3)
 
 going-on-requires : tie.Need-going-on-requires
 going-on-requires c κs = search needs
@@ -88,18 +81,16 @@ same-length-7 : tie.Need-same-length-7
 same-length-7 c = search needs
 
 same-length-8 : tie.Need-same-length-8
-same-length-8 c = search needs
+same-length-8 c =
+    c .before .before .before .before .before .before .before .before .before .before .before .before .before .before .before .before .before .before .before .before .before .before .before .before .before .next .kept .0
 
 same-length-9 : tie.Need-same-length-9
-same-length-9 c = c .before .before .before .before .before .before .before .before .before .before .before .before .before .before .before .before .before .before .before .before .before .before .before .before .before .before .before .before .next .kept .0
-
-same-length-10 : tie.Need-same-length-10
-same-length-10 c = search needs
+same-length-9 c = search needs
 
 returns-3 : tie.Need-returns-3
 returns-3 c =
-    let l = lies (c .before .before .before .before .before .before .before .before .before .before .before .before .before .before .before .before .before .before .before .before .before .before .before .before) in
-    omega (arith, c .going-on .ensures, l .2, l .3)
+    let l = lies (c .before .before .before .before .before .before .before .before .before .before .before .before .before .before .before .before .before .before .before .before .before) in
+    omega (arith, c .going-on .ensures, l .2)
 
 pub step-spec : {M : Type 1} → statement M
 step-spec =
@@ -109,8 +100,7 @@ step-spec =
     enum-told
     stopped-requires
     enum-told-2
-    bad-record-requires
-    stopped-requires-2
+    bad-requires
     enum-known-found
     sub-body
     part-body-start
@@ -128,5 +118,4 @@ step-spec =
     same-length-7
     same-length-8
     same-length-9
-    same-length-10
     returns-3)

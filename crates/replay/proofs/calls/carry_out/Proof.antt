@@ -5,20 +5,20 @@ use Rattle.replay.proofs.calls.carry_out.Tie as tie
 event-requires : tie.Need-event-requires
 event-requires c κs =
     let m = c .before .before .before .before in
-    m .before .before .before .before .before .before .before .before .pre .0 (m .match .keys1)
+    m .before .before .before .before .before .before .before .pre .0 (m .match .keys1)
 
 reading-requires : tie.Need-reading-requires
 reading-requires c κs =
     let m = c .before .before in
-    m .before .before .before .before .before .before .before .before .pre .1 (m .match .keys2)
+    m .before .before .before .before .before .before .before .pre .1 (m .match .keys2)
 
 line-requires : tie.Need-line-requires
 line-requires c κs = search needs
 
 close-requires : tie.Need-close-requires
 close-requires c κs =
-    let m = c .before .before .before .before .before .before in
-    m .before .before .before .before .before .before .before .before .pre .2 (m .match .keys4)
+    let m = c .before .before .before .before .before in
+    m .before .before .before .before .before .before .before .pre .2 (m .match .keys4)
 
 package-requires : tie.Need-package-requires
 package-requires c κs = search needs
@@ -65,11 +65,11 @@ same-length-9 c = search needs
 same-length-10 : tie.Need-same-length-10
 same-length-10 c = search needs
 
-same-length-11 : tie.Need-same-length-11
-same-length-11 c = search needs
-
 returns-4 : tie.Need-returns-4
 returns-4 c = search needs
+
+same-length-11 : tie.Need-same-length-11
+same-length-11 c = search needs
 
 same-length-12 : tie.Need-same-length-12
 same-length-12 c = search needs
@@ -77,14 +77,11 @@ same-length-12 c = search needs
 same-length-13 : tie.Need-same-length-13
 same-length-13 c = search needs
 
-same-length-14 : tie.Need-same-length-14
-same-length-14 c = search needs
-
 returns-5 : tie.Need-returns-5
 returns-5 c = search needs
 
-same-length-15 : tie.Need-same-length-15
-same-length-15 c = search needs
+same-length-14 : tie.Need-same-length-14
+same-length-14 c = search needs
 
 returns-6 : tie.Need-returns-6
 returns-6 c = search needs
@@ -112,11 +109,10 @@ carry-out-spec =
     same-length-8
     same-length-9
     same-length-10
-    same-length-11
     returns-4
+    same-length-11
     same-length-12
     same-length-13
-    same-length-14
     returns-5
-    same-length-15
+    same-length-14
     returns-6)

@@ -22,14 +22,11 @@ same-length c = search needs
 returns : tie.Need-returns
 returns c = search needs
 
-add-t11 : tie.Need-add-t11
-add-t11 c = search needs
+add-from : tie.Need-add-from
+add-from c = search needs
 
-add-t12 : tie.Need-add-t12
-add-t12 c = search needs
-
-add-t14 : tie.Need-add-t14
-add-t14 c = search needs
+add-t13 : tie.Need-add-t13
+add-t13 c = search needs
 
 same-length-2 : tie.Need-same-length-2
 same-length-2 c = search needs
@@ -37,7 +34,7 @@ same-length-2 c = search needs
 returns-2 : tie.Need-returns-2
 returns-2 c =
     let s = c .before .before .before .before .before .before in
-    (omega arith, omega arith, omega arith, omega arith, rw add-sub-cancel-left (s .pre .1 .1))
+    (omega arith, omega arith, (omega arith, omega arith), rw add-sub-cancel-left (s .pre .1 .1))
 
 pub whole-spec : {M : Type 1} → statement M
 whole-spec =
@@ -49,8 +46,7 @@ whole-spec =
     add-if1
     same-length
     returns
-    add-t11
-    add-t12
-    add-t14
+    add-from
+    add-t13
     same-length-2
     returns-2)

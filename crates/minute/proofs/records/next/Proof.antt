@@ -1,7 +1,7 @@
 use native.Mathlib.Omega.{arith}
 use borrow.Author.Needs.{needs}
-use Rattle.minute.proofs.next.Statement.{statement}
-use Rattle.minute.proofs.next.Tie as tie
+use Rattle.minute.proofs.records.next.Statement.{statement}
+use Rattle.minute.proofs.records.next.Tie as tie
 
 fill-requires : tie.Need-fill-requires
 fill-requires c κs = search needs

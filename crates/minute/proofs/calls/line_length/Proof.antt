@@ -6,8 +6,8 @@ use denote.Ref.{now}
 use Rattle.minute.specs.Line.{lineLength}
 use Rattle.minute.proofs.LineLaws.{length-step, length-stop, length-end}
 use borrow.Author.Needs.{needs}
-use Rattle.minute.proofs.line_length.Statement.{statement}
-use Rattle.minute.proofs.line_length.Tie as tie
+use Rattle.minute.proofs.calls.line_length.Statement.{statement}
+use Rattle.minute.proofs.calls.line_length.Tie as tie
 
 abbrev Inv-loop : tie.InvT-loop
 Inv-loop body i₀ i = (i ≤ length body) × (lineLength body ≡ i + lineLength (drop i body))

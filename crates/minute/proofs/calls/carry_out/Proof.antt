@@ -1,14 +1,14 @@
 use borrow.Author.Needs.{needs}
-use Rattle.minute.proofs.carry_out.Statement.{statement}
-use Rattle.minute.proofs.carry_out.Tie as tie
+use Rattle.minute.proofs.calls.carry_out.Statement.{statement}
+use Rattle.minute.proofs.calls.carry_out.Tie as tie
 
 reading-requires : tie.Need-reading-requires
-reading-requires c κs = c .before .before .before .before .before .before .before .before .pre .1 (c .match .keys1)
+reading-requires c κs = c .before .before .before .before .before .before .pre .1 (c .match .keys1)
 
 close-requires : tie.Need-close-requires
 close-requires c κs =
-    let m = c .before .before .before .before .before in
-    m .before .before .before .before .before .before .before .before .pre .2 (m .match .keys2)
+    let m = c .before .before .before .before in
+    m .before .before .before .before .before .before .pre .2 (m .match .keys2)
 
 line-requires : tie.Need-line-requires
 line-requires c κs = search needs
@@ -25,14 +25,8 @@ same-length-2 c = search needs
 same-length-3 : tie.Need-same-length-3
 same-length-3 c = search needs
 
-same-length-4 : tie.Need-same-length-4
-same-length-4 c = search needs
-
 returns-2 : tie.Need-returns-2
 returns-2 c = search needs
-
-same-length-5 : tie.Need-same-length-5
-same-length-5 c = search needs
 
 returns-3 : tie.Need-returns-3
 returns-3 c = search needs
@@ -48,7 +42,5 @@ carry-out-spec =
     same-length
     same-length-2
     same-length-3
-    same-length-4
     returns-2
-    same-length-5
     returns-3)

@@ -1,8 +1,8 @@
 use mathlib.Core.Path.{sym}
 use lib.Seq.{length-take-le}
 use borrow.Author.Needs.{needs}
-use Rattle.minute.proofs.line.Statement.{statement}
-use Rattle.minute.proofs.line.Tie as tie
+use Rattle.minute.proofs.calls.line.Statement.{statement}
+use Rattle.minute.proofs.calls.line.Tie as tie
 
 line-length-requires : tie.Need-line-length-requires
 line-length-requires c κs = search needs
@@ -10,19 +10,18 @@ line-length-requires c κs = search needs
 slice-aggregate-line : tie.Need-slice-aggregate-line
 slice-aggregate-line c = sym (length-take-le _ _ (c .before .line-length .ensures .1))
 
+slice-aggregate-line-2 : tie.Need-slice-aggregate-line-2
+slice-aggregate-line-2 c = search needs
+
 line-requires : tie.Need-line-requires
 line-requires c κs = search needs
 
-same-length : tie.Need-same-length
-same-length c = search needs
-
 returns : tie.Need-returns
 returns c =
-    let l = c .before .before in
-    let n = l .before .before .before .line-length .ensures .0 in
-    (simp (sym n) (l .line .ensures .0), simp (sym n) (l .line .ensures .1))
+    let l = c .before in
+    simp (sym (l .before .before .before .line-length .ensures .0)) (l .line .ensures .0)
 
 pub line-spec : {M : Type 1} → statement M
 line-spec =
     tie.close
-    (tie.spec line-length-requires slice-aggregate-line line-requires same-length returns)
+    (tie.spec line-length-requires slice-aggregate-line slice-aggregate-line-2 line-requires returns)

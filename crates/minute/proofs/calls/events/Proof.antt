@@ -1,15 +1,17 @@
 use Prim.Native.Nat.{_≤_, _-_}
-use mathlib.Core.Path.{_≡_}
+use mathlib.Core.Path.{_≡_, ap, _∙_}
+use mathlib.Core.Logic.{⊎-elim}
+use native.Mathlib.Omega.{arith}
 use lib.ListN.{length}
 use borrow.Author.Needs.{needs}
-use Rattle.minute.proofs.events.Statement.{statement}
-use Rattle.minute.proofs.events.Tie as tie
+use Rattle.minute.proofs.calls.events.Statement.{statement}
+use Rattle.minute.proofs.calls.events.Tie as tie
 
 abbrev Inv-loop : tie.InvT-loop
-Inv-loop first end tables slots₀ buffer text₀ at₀ after₀ from₀ slots text at after from = (from ≤ end) × (length slots ≡ length slots₀) × (length text ≡ length text₀)
+Inv-loop tables slots₀ buffer text₀ at₀ end after₀ from₀ slots text at after from = (from ≤ end) × (length slots ≡ length slots₀) × (length text ≡ length text₀)
 
 abbrev μ-loop : tie.MeasureT-loop
-μ-loop first end tables slots₀ buffer text₀ at₀ after₀ from₀ slots text at after from = end - from
+μ-loop tables slots₀ buffer text₀ at₀ end after₀ from₀ slots text at after from = end - from
 
 loop-holds : tie.Need-loop-holds Inv-loop μ-loop
 loop-holds c = search needs
@@ -54,13 +56,21 @@ print-refusal-requires : tie.Need-print-refusal-requires Inv-loop μ-loop
 print-refusal-requires c κs = search needs
 
 add-from : tie.Need-add-from Inv-loop μ-loop
-add-from c = search needs
+add-from c = omega (arith, add-body-2 (c .before .before .before .before .before .before .before .before))
 
 loop-less : tie.Need-loop-less Inv-loop μ-loop
 loop-less c = search needs
 
 loop-again : tie.Need-loop-again Inv-loop μ-loop
-loop-again c = search needs
+loop-again c =
+    let i = c .before .before .before .before .before .before .before .before .before .before .before .loop .inv in (
+      search needs,
+      search needs,
+      ⊎-elim
+          (λ w. omega (arith, w .3 .kept .0, ap length (w .6), i .2))
+          (λ w. ap length (w .1) ∙ i .2)
+          (c .if2 .came),
+    )
 
 going-on-requires-2 : tie.Need-going-on-requires-2 Inv-loop μ-loop
 going-on-requires-2 c κs = search needs
