@@ -29,10 +29,10 @@ instructions() {
         sed -n 's/.*Collected : //p'
 }
 
-# nanoseconds PROGRAM STREAM: the least of nine runs
+# nanoseconds PROGRAM STREAM: the least of 25 runs
 nanoseconds() {
-    local least=0 run before after
-    for run in 1 2 3 4 5 6 7 8 9; do
+    local least=0 before after
+    for _ in {1..25}; do
         before=$(date +%s%N)
         (cd "$work/$2" && "$1" < stdin > /dev/null)
         after=$(date +%s%N)
