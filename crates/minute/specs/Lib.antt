@@ -1,2 +1,4 @@
 -- What the contracts of minute cite.
 pub mod Line
+pub mod Events
+pub mod Calls

@@ -1,10 +1,15 @@
 // The calls, and what is printed of their answers.
 ghost use mathlib.Core.Path.{_≡_};
-ghost use Prim.Native.Nat.{_≤_};
-ghost use lib.ListN.{length, replicate};
+ghost use Prim.Native.Nat.{_-_, _≤_};
+ghost use lib.ListN.{length};
+ghost use Rattle.wire.specs.Bytes.{zeros};
+ghost use Rattle.command.specs.Echo.{echoBytes};
 ghost use Rattle.processor.specs.Line.{lineAnswer};
-ghost use Rattle.stream.specs.Input.{Held};
+ghost use Rattle.processor.specs.Close.{outBytes, closeTables, closeSlots};
+ghost use Rattle.stream.specs.Input.{Held, waitingIn};
 ghost use Rattle.stream.specs.Record.{LongAs};
+ghost use Rattle.minute.specs.Calls.{closed, carriedOut, tablesThen, slotsThen};
+ghost use Rattle.minute.specs.Events.{EventsRun};
 ghost use Rattle.minute.specs.Line.{lineLength, lineIn};
 use processor::Answer;
 use processor::close::Closed;
@@ -33,7 +38,7 @@ fn line_length(body: &[u8]) -> usize
 
 // One command line. Its echo is not printed.
 fn line(state: State, body: &[u8]) -> Answer
-    ensures { λ r. ⌜ r ≡ lineAnswer state (lineIn (now (body .entry))) (replicate 128 0) ⌝ }
+    ensures { λ r. ⌜ r ≡ lineAnswer state (lineIn (now (body .entry))) (zeros echoBytes) ⌝ }
 {
     let n = line_length(body);
     let mut echo = [0u8; command::echo::ECHO_BYTES];
@@ -80,6 +85,9 @@ fn close(
     at: &mut usize,
 ) -> Answer
     requires { ⌜ length (now body) ≡ 4 ⌝ }
+    ensures answer { λ r. ⌜ r ≡ closed state (now (tables .entry)) (now (staging .entry)) (now (slots .entry)) ⌝ }
+    ensures tables { λ r. ⌜ now (tables .exit) ≡ closeTables state (now (tables .entry)) (now (staging .entry)) (now (slots .entry)) (zeros outBytes) ⌝ }
+    ensures slots { λ r. ⌜ now (slots .exit) ≡ closeSlots state (now (tables .entry)) (now (staging .entry)) (now (slots .entry)) (zeros outBytes) ⌝ }
 {
     let time = wire::read::u32_at(body, 0);
     let mut packets = [0u8; processor::packets::OUT_BYTES];
@@ -104,6 +112,9 @@ pub fn carry_out(
     at: &mut usize,
 ) -> Answer
     requires { ⌜ LongAs kind (length (now body)) ⌝ }
+    ensures answer { λ r. ⌜ r ≡ carriedOut kind state (now (tables .entry)) (now (staging .entry)) (now (slots .entry)) (now (body .entry)) ⌝ }
+    ensures tables { λ r. ⌜ now (tables .exit) ≡ tablesThen kind state (now (tables .entry)) (now (staging .entry)) (now (slots .entry)) ⌝ }
+    ensures slots { λ r. ⌜ now (slots .exit) ≡ slotsThen kind state (now (tables .entry)) (now (staging .entry)) (now (slots .entry)) ⌝ }
 {
     match kind {
         stream::record::READING => stream::record::reading(state, body),
@@ -123,7 +134,8 @@ pub fn events(
     at: &mut usize,
 ) -> Step
     requires { ⌜ Held input (now buffer) ⌝ }
-    ensures { λ r. ⌜ Held (r .input) (now (buffer .entry)) ⌝ }
+    ensures input { λ r. ⌜ Held (r .input) (now (buffer .entry)) × (input .at ≤ r .input .at) × (r .input .end ≡ input .end) ⌝ }
+    ensures run { λ r. ⌜ EventsRun state (now (tables .entry)) (now (slots .entry)) (waitingIn input (now (buffer .entry))) (r .input .at - input .at) (r .state) (now (slots .exit)) ⌝ }
 {
     let end = input.end;
     let mut after = state;

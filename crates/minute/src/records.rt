@@ -1,6 +1,6 @@
 // The records of minute: each kind has a body of one length.
 ghost use Prim.Native.Nat.{_≤_};
-ghost use Rattle.stream.specs.Input.{Held};
+ghost use Rattle.stream.specs.Input.{Held, waitingIn};
 ghost use Rattle.stream.specs.Record.{LongAs, FoundIn};
 use stream::input::Input;
 use stream::record::Next;
@@ -12,19 +12,17 @@ const LINE_BYTES: usize = 80;
 fn body_bytes(kind: u8) -> usize
     ensures { λ r. ⌜ (r ≤ 80) × LongAs kind r ⌝ }
 {
-    match kind {
-        stream::record::EVENT => stream::record::EVENT_BYTES,
-        stream::record::READING => stream::record::READING_BYTES,
-        stream::record::LINE => LINE_BYTES,
-        stream::record::CLOSE => stream::record::CLOSE_BYTES,
-        _ => 0,
+    if kind == stream::record::LINE {
+        LINE_BYTES
+    } else {
+        stream::record::fixed_bytes(kind)
     }
 }
 
-// The record that stands next in the input.
+// The record that stands next in the input, its body right behind its kind.
 pub fn next(buffer: &mut [u8], input: Input) -> Next
     requires { ⌜ Held input (now buffer) ⌝ }
-    ensures { λ r. ⌜ FoundIn r (now (buffer .exit)) ⌝ }
+    ensures { λ r. ⌜ FoundIn (λ _. 1) r (waitingIn input (now (buffer .entry))) (now (buffer .exit)) ⌝ }
 {
     let one = stream::input::fill(buffer, input, 1);
     let at = one.at;

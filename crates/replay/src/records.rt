@@ -1,7 +1,10 @@
 // The records of a list of calls.
-ghost use Prim.Native.Nat.{ℕ};
-ghost use Rattle.stream.specs.Input.{Held};
-ghost use Rattle.stream.specs.Record.{LongAs, FoundIn};
+ghost use mathlib.Core.Path.{_≡_};
+ghost use Prim.Native.Nat.{ℕ, _<_};
+ghost use lib.ListN.{getD};
+ghost use Rattle.stream.specs.Input.{Held, waitingIn};
+ghost use Rattle.stream.specs.Record.{LongAs, FoundIn, KindIs};
+ghost use Rattle.replay.specs.Record.{isCounted, headOf};
 use stream::input::Input;
 use stream::record::Next;
 use stream::record::whole;
@@ -11,6 +14,13 @@ pub const PACKAGE: u8 = 5;
 
 pub const PACKET: u8 = 6;
 
+// Whether a body has its length in front.
+fn is_counted(kind: u8) -> bool
+    ensures { λ r. ⌜ r ≡ isCounted kind ⌝ }
+{
+    (kind == stream::record::LINE) | (kind == PACKAGE) | (kind == PACKET)
+}
+
 // A kind byte and a length.
 const COUNTED: usize = 3;
 
@@ -18,7 +28,9 @@ const COUNTED: usize = 3;
 fn counted(buffer: &mut [u8], input: Input, kind: u8) -> Next
     requires { ⌜ Held input (now buffer) ⌝ }
     requires { ⌜ ((n : ℕ) → LongAs kind n) ⌝ }
-    ensures { λ r. ⌜ FoundIn r (now (buffer .exit)) ⌝ }
+    requires { ⌜ (input .at < input .end) × (getD (now buffer) (input .at) 0 ≡ kind) ⌝ }
+    ensures { λ r. ⌜ FoundIn (λ _. 3) r (waitingIn input (now (buffer .entry))) (now (buffer .exit)) ⌝ }
+    ensures { λ r. ⌜ KindIs kind r ⌝ }
 {
     let three = stream::input::fill(buffer, input, COUNTED);
     let at = three.at;
@@ -32,7 +44,7 @@ fn counted(buffer: &mut [u8], input: Input, kind: u8) -> Next
 // The record that stands next in the input.
 pub fn next(buffer: &mut [u8], input: Input) -> Next
     requires { ⌜ Held input (now buffer) ⌝ }
-    ensures { λ r. ⌜ FoundIn r (now (buffer .exit)) ⌝ }
+    ensures { λ r. ⌜ FoundIn headOf r (waitingIn input (now (buffer .entry))) (now (buffer .exit)) ⌝ }
 {
     let one = stream::input::fill(buffer, input, 1);
     let at = one.at;
@@ -40,13 +52,12 @@ pub fn next(buffer: &mut [u8], input: Input) -> Next
         return Next::End;
     }
     let kind = buffer[at];
-    match kind {
-        stream::record::EVENT => whole(buffer, one, kind, 1, stream::record::EVENT_BYTES),
-        stream::record::READING => whole(buffer, one, kind, 1, stream::record::READING_BYTES),
-        stream::record::CLOSE => whole(buffer, one, kind, 1, stream::record::CLOSE_BYTES),
-        stream::record::LINE => counted(buffer, one, kind),
-        PACKAGE => counted(buffer, one, kind),
-        PACKET => counted(buffer, one, kind),
-        _ => Next::Bad,
+    if is_counted(kind) {
+        return counted(buffer, one, kind);
     }
+    let n = stream::record::fixed_bytes(kind);
+    if n == 0 {
+        return Next::Bad;
+    }
+    whole(buffer, one, kind, 1, n)
 }

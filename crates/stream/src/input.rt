@@ -1,7 +1,8 @@
 // Standard input, read in large pieces into a lent buffer.
-ghost use Prim.Native.Nat.{_+_, _≤_};
-ghost use lib.ListN.{length};
-ghost use Rattle.stream.specs.Input.{Held};
+ghost use mathlib.Core.Path.{_≡_};
+ghost use Prim.Native.Nat.{_-_, _≤_};
+ghost use lib.ListN.{length, take, drop};
+ghost use Rattle.stream.specs.Input.{Held, waitingIn, Begins};
 use libc::STDIN_FILENO;
 
 // The bytes of the buffer from `at` to before `end` are read and not yet used.
@@ -31,6 +32,7 @@ fn read(part: &mut [u8]) -> usize
 // Moves the bytes from `at` to before `end` to the start of the buffer.
 fn move_to_start(buffer: &mut [u8], at: usize, end: usize)
     requires { ⌜ (at ≤ end) × (end ≤ length (now buffer)) ⌝ }
+    ensures { λ _. ⌜ take (end - at) (now (buffer .exit)) ≡ take (end - at) (drop at (now (buffer .entry))) ⌝ }
 {
     let mut i = at;
     while i < end {
@@ -42,7 +44,8 @@ fn move_to_start(buffer: &mut [u8], at: usize, end: usize)
 // Reads behind the first `held` bytes until there are n, the buffer is full or the input ends; how many there are.
 fn read_behind(buffer: &mut [u8], held: usize, n: usize) -> usize
     requires { ⌜ held ≤ length (now buffer) ⌝ }
-    ensures { λ r. ⌜ r ≤ length (now (buffer .entry)) ⌝ }
+    ensures { λ r. ⌜ (held ≤ r) × (r ≤ length (now (buffer .entry))) ⌝ }
+    ensures { λ r. ⌜ take held (now (buffer .exit)) ≡ take held (now (buffer .entry)) ⌝ }
 {
     let mut end = held;
     while end < n {
@@ -55,10 +58,11 @@ fn read_behind(buffer: &mut [u8], held: usize, n: usize) -> usize
     end
 }
 
-// Reads until n bytes wait, or as many as are left of the input.
+// Reads until n bytes wait, or as many as are left of the input. Those that waited still do, in front.
 pub fn fill(buffer: &mut [u8], input: Input, n: usize) -> Input
     requires { ⌜ Held input (now buffer) ⌝ }
     ensures { λ r. ⌜ Held r (now (buffer .exit)) ⌝ }
+    ensures { λ r. ⌜ Begins (waitingIn input (now (buffer .entry))) (waitingIn r (now (buffer .exit))) ⌝ }
 {
     let at = input.at;
     let end = input.end;

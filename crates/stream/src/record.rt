@@ -1,10 +1,10 @@
 // The bodies of the records that both programs read.
 ghost use mathlib.Core.Path.{_≡_};
 ghost use Prim.Native.Nat.{_+_, _≤_, _<_};
-ghost use lib.ListN.{length};
+ghost use lib.ListN.{length, getD};
 ghost use Rattle.processor.specs.Reading.{readingAnswer};
-ghost use Rattle.stream.specs.Input.{Held, inputBytes};
-ghost use Rattle.stream.specs.Record.{LongAs, FoundIn, flagOf, eventIn, recordAnswer, recordSlots, countsIn};
+ghost use Rattle.stream.specs.Input.{Held, waitingIn, inputBytes};
+ghost use Rattle.stream.specs.Record.{LongAs, FoundIn, KindIs, flagOf, eventIn, recordAnswer, recordSlots, countsIn};
 use crate::input::Input;
 use processor::Answer;
 use sort::event::Event;
@@ -40,7 +40,7 @@ pub fn left(records: u64, more: bool) -> u64
 
 // The program goes on with this input.
 pub fn going_on(state: State, input: Input) -> Step
-    ensures { λ r. ⌜ (r .input .at ≡ input .at) × (r .input .end ≡ input .end) ⌝ }
+    ensures { λ r. ⌜ (r .state ≡ state) × (r .input .at ≡ input .at) × (r .input .end ≡ input .end) ⌝ }
 {
     Step {
         state,
@@ -85,12 +85,26 @@ pub const READING_BYTES: usize = 16;
 
 pub const CLOSE_BYTES: usize = 4;
 
+// The length of a kind's body, where that is the same in both programs; else 0.
+pub fn fixed_bytes(kind: u8) -> usize
+    ensures { λ r. ⌜ (r ≤ 16) × LongAs kind r ⌝ }
+{
+    match kind {
+        EVENT => EVENT_BYTES,
+        READING => READING_BYTES,
+        CLOSE => CLOSE_BYTES,
+        _ => 0,
+    }
+}
+
 // The next record, whose body is the n bytes behind its first `head` ones.
 pub fn whole(buffer: &mut [u8], input: Input, kind: u8, head: usize, n: usize) -> Next
     requires { ⌜ Held input (now buffer) ⌝ }
     requires { ⌜ (1 ≤ head) × (head + n ≤ inputBytes) ⌝ }
     requires { ⌜ LongAs kind n ⌝ }
-    ensures { λ r. ⌜ FoundIn r (now (buffer .exit)) ⌝ }
+    requires { ⌜ (input .at < input .end) × (getD (now buffer) (input .at) 0 ≡ kind) ⌝ }
+    ensures { λ r. ⌜ FoundIn (λ _. head) r (waitingIn input (now (buffer .entry))) (now (buffer .exit)) ⌝ }
+    ensures { λ r. ⌜ KindIs kind r ⌝ }
 {
     let filled = crate::input::fill(buffer, input, head + n);
     let at = filled.at;

@@ -1,3 +1,5 @@
+use borrow.Author.Tests.{ne-eqb}
+use Rattle.minute.specs.Calls.{carriedOut, tablesThen, slotsThen}
 use borrow.Author.Needs.{needs}
 use Rattle.minute.proofs.calls.carry_out.Statement.{statement}
 use Rattle.minute.proofs.calls.carry_out.Tie as tie
@@ -14,7 +16,8 @@ line-requires : tie.Need-line-requires
 line-requires c κs = search needs
 
 returns : tie.Need-returns
-returns c = search needs
+unfolding carriedOut tablesThen slotsThen
+returns c = let k = c .before .match .keys1 in (rw k (c .reading .ensures), (rw k, rw k))
 
 same-length : tie.Need-same-length
 same-length c = search needs
@@ -26,10 +29,20 @@ same-length-3 : tie.Need-same-length-3
 same-length-3 c = search needs
 
 returns-2 : tie.Need-returns-2
-returns-2 c = search needs
+unfolding carriedOut tablesThen slotsThen
+returns-2 c =
+    let x = c .before .before .before .before .before .before in
+    let e = x .close .ensures in
+    let k = x .before .before .before .before .before .match .keys2 in
+    (rw k (e .0), (rw k (e .1 .0), rw k (e .1 .1)))
 
 returns-3 : tie.Need-returns-3
-returns-3 c = search needs
+unfolding carriedOut tablesThen slotsThen
+returns-3 c =
+    let r = c .before .match .rest in
+    let n₂ = ne-eqb _ _ (r .0 .1) in
+    let n₄ = ne-eqb _ _ (r .1) in
+    (rw (n₂, n₄) (c .line .ensures), (rw n₄, rw n₄))
 
 pub carry-out-spec : {M : Type 1} → statement M
 carry-out-spec =

@@ -1,20 +1,29 @@
-use Prim.Native.Nat.{_≤_, _-_}
-use mathlib.Core.Path.{_≡_, ap, _∙_}
+use Prim.Native.Nat.{_≤_, _+_, _-_}
+use mathlib.Core.Path.{_≡_, refl, ap, _∙_}
 use mathlib.Core.Logic.{⊎-elim}
 use native.Mathlib.Omega.{arith}
-use lib.ListN.{length}
+use lib.ListN.{length, take, drop}
+use denote.Ref.{now}
+use Rattle.stream.specs.Input.{waitingIn}
+use Rattle.minute.specs.Events.{EventsRun}
+use Rattle.minute.proofs.EventLaws.{record-kind, record-body, events-none, events-more}
 use borrow.Author.Needs.{needs}
 use Rattle.minute.proofs.calls.events.Statement.{statement}
 use Rattle.minute.proofs.calls.events.Tie as tie
 
 abbrev Inv-loop : tie.InvT-loop
-Inv-loop tables slots₀ buffer text₀ at₀ end after₀ from₀ slots text at after from = (from ≤ end) × (length slots ≡ length slots₀) × (length text ≡ length text₀)
+Inv-loop tables slots₀ buffer text₀ at₀ end after₀ from₀ slots text at after from =
+    (from ≤ end) × (length slots ≡ length slots₀) × (length text ≡ length text₀)
+    × (from₀ ≤ from) × EventsRun after₀ tables slots₀ (waitingIn (record { at = from₀; end = end }) buffer) (from - from₀) after slots
 
 abbrev μ-loop : tie.MeasureT-loop
 μ-loop tables slots₀ buffer text₀ at₀ end after₀ from₀ slots text at after from = end - from
 
 loop-holds : tie.Need-loop-holds Inv-loop μ-loop
-loop-holds c = search needs
+loop-holds c =
+    let s = c .before .before .before .before in
+    let z : s .args .input .at - s .args .input .at ≡ 0 = omega arith in
+    (s .pre .0, refl, refl, omega arith, rw z (events-none (s .args .state) (now (s .args .tables)) (now (s .args .slots)) (waitingIn (s .args .input) (now (s .args .buffer)))))
 
 sub-loop : tie.Need-sub-loop Inv-loop μ-loop
 sub-loop c = search needs
@@ -32,7 +41,10 @@ same-length-2 : tie.Need-same-length-2 Inv-loop μ-loop
 same-length-2 c = search needs
 
 returns : tie.Need-returns Inv-loop μ-loop
-returns c = search needs
+returns c =
+    let v = c .before .before .before .before .loop .inv in
+    let g = c .going-on .ensures in
+    (search needs, rw (g .0, g .1) (v .4))
 
 add-body : tie.Need-add-body Inv-loop μ-loop
 add-body c = search needs
@@ -63,13 +75,27 @@ loop-less c = search needs
 
 loop-again : tie.Need-loop-again Inv-loop μ-loop
 loop-again c =
-    let i = c .before .before .before .before .before .before .before .before .before .before .before .loop .inv in (
-      search needs,
+    let x = c .before .before .before .before .before .before .before .before in
+    let l = x .before .before .before in
+    let s = l .before .before .before .before .before in
+    let e = c .before .before .before .before .before .event in
+    let v = l .loop .inv in
+    let input = s .args .input in
+    let b = now (s .args .buffer) in
+    let from = l .loop .from in
+    let g : from + 8 ≤ input .end = omega (arith, x .before .before .loop-test .taken, v .0) in
+    let k : from + 8 - input .at ≡ from - input .at + 8 = omega arith in (
+      g,
       search needs,
       ⊎-elim
-          (λ w. omega (arith, w .3 .kept .0, ap length (w .6), i .2))
-          (λ w. ap length (w .1) ∙ i .2)
+          (λ w. omega (arith, w .3 .kept .0, ap length (w .6), v .2))
+          (λ w. ap length (w .1) ∙ v .2)
           (c .if2 .came),
+      omega arith,
+      rw (k, e .ensures .0, e .ensures .1)
+          (events-more (s .args .state) (now (s .args .tables)) (now (s .args .slots)) (waitingIn input b)
+          (from - input .at) (l .loop .after) (l .loop .slots) (take (from + 8 - (from + 1)) (drop (from + 1) b)) (v .4)
+          (record-kind input b (s .pre) from (v .3) g ∙ x .if1 .left) (record-body input b (s .pre) from (v .3) g)),
     )
 
 going-on-requires-2 : tie.Need-going-on-requires-2 Inv-loop μ-loop
@@ -82,7 +108,10 @@ same-length-4 : tie.Need-same-length-4 Inv-loop μ-loop
 same-length-4 c = search needs
 
 returns-2 : tie.Need-returns-2 Inv-loop μ-loop
-returns-2 c = search needs
+returns-2 c =
+    let v = c .before .before .loop .inv in
+    let g = c .going-on2 .ensures in
+    (search needs, rw (g .0, g .1) (v .4))
 
 pub events-spec : {M : Type 1} → statement M
 events-spec =

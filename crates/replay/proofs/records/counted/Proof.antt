@@ -1,4 +1,9 @@
+use mathlib.Core.Path.{_∙_}
 use native.Mathlib.Omega.{arith}
+use denote.Ref.{now}
+use Rattle.stream.specs.Input.{waitingIn}
+use Rattle.stream.proofs.InputLaws.{first-same}
+use Rattle.stream.proofs.RecordLaws.{found-then}
 use borrow.Author.Needs.{needs}
 use Rattle.replay.proofs.records.counted.Statement.{statement}
 use Rattle.replay.proofs.records.counted.Tie as tie
@@ -28,13 +33,19 @@ whole-requires : tie.Need-whole-requires
 whole-requires c κs =
     let u = c .before in
     let f = u .before .before .before .before .before .before in
-    (f .fill .ensures, (omega (arith, u .u16-at .ok), f .before .before .before .pre .1 _))
+    let s = f .before .before .before in
+    let same = first-same (s .args .input) (f .fill .result) (now (s .args .buffer)) (f .fill .last .0) (s .pre .0) (f .fill .ensures .0) (s .pre .1 .1 .0) (f .fill .ensures .1) in
+    (f .fill .ensures .0, (omega (arith, u .u16-at .ok), (s .pre .1 .0 _, (omega arith, same ∙ s .pre .1 .1 .1))))
 
 same-length-2 : tie.Need-same-length-2
 same-length-2 c = search needs
 
 returns-2 : tie.Need-returns-2
-returns-2 c = search needs
+returns-2 c =
+    let w = c .before .before in
+    let f = w .before .before .before .before .before .before .before .before in
+    let s = f .before .before .before in
+    (found-then (λ _. 3) (w .whole .result) (waitingIn (s .args .input) (now (s .args .buffer))) _ _ (f .fill .ensures .1) (w .whole .ensures .0), w .whole .ensures .1)
 
 pub counted-spec : {M : Type 1} → statement M
 counted-spec =

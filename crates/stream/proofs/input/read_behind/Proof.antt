@@ -1,12 +1,15 @@
 use Prim.Native.Nat.{_≤_, _-_}
-use mathlib.Core.Path.{_≡_}
-use lib.ListN.{length}
+use mathlib.Core.Path.{_≡_, _∙_}
+use native.Mathlib.Omega.{arith}
+use lib.ListN.{length, take}
+use Rattle.stream.proofs.InputLaws.{front-kept}
 use borrow.Author.Needs.{needs}
 use Rattle.stream.proofs.input.read_behind.Statement.{statement}
 use Rattle.stream.proofs.input.read_behind.Tie as tie
 
 abbrev Inv-loop : tie.InvT-loop
-Inv-loop buffer₀ held n end₀ buffer end = (end ≤ length buffer₀) × (length buffer ≡ length buffer₀)
+Inv-loop buffer₀ held n end₀ buffer end =
+    (held ≤ end) × (end ≤ length buffer₀) × (length buffer ≡ length buffer₀) × (take held buffer ≡ take held buffer₀)
 
 abbrev μ-loop : tie.MeasureT-loop
 μ-loop buffer₀ held n end₀ buffer end = length buffer₀ - end
@@ -30,7 +33,11 @@ same-length : tie.Need-same-length Inv-loop μ-loop
 same-length c = search needs
 
 returns : tie.Need-returns Inv-loop μ-loop
-returns c = search needs
+returns c =
+    let k = c .before .before .before in
+    let l = k .before .before .before in
+    let v = l .loop .inv in
+    ((v .0, v .1), front-kept (l .before .before .args .held) (l .loop .end) (length (l .loop .buffer) - l .loop .end) (l .loop .buffer) (k .read .last .0) (v .0) (omega arith) ∙ v .3)
 
 add-end : tie.Need-add-end Inv-loop μ-loop
 add-end c = search needs
@@ -39,7 +46,15 @@ loop-less : tie.Need-loop-less Inv-loop μ-loop
 loop-less c = search needs
 
 loop-again : tie.Need-loop-again Inv-loop μ-loop
-loop-again c = search needs
+loop-again c =
+    let k = c .before .before .before in
+    let l = k .before .before .before in
+    let v = l .loop .inv in (
+      omega (arith, v),
+      search needs,
+      search needs,
+      front-kept (l .before .before .args .held) (l .loop .end) (length (l .loop .buffer) - l .loop .end) (l .loop .buffer) (k .read .last .0) (v .0) (omega arith) ∙ v .3,
+    )
 
 same-length-2 : tie.Need-same-length-2 Inv-loop μ-loop
 same-length-2 c = search needs

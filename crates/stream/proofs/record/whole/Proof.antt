@@ -1,5 +1,9 @@
+use mathlib.Core.Path.{_≡_, refl, _∙_}
+use Prim.Native.Nat.{_+_, _-_}
 use native.Mathlib.Nat.{add-sub-cancel-left}
 use native.Mathlib.Omega.{arith}
+use denote.Ref.{now}
+use Rattle.stream.proofs.InputLaws.{first-same}
 use borrow.Author.Needs.{needs}
 use Rattle.stream.proofs.record.whole.Statement.{statement}
 use Rattle.stream.proofs.record.whole.Tie as tie
@@ -33,8 +37,22 @@ same-length-2 c = search needs
 
 returns-2 : tie.Need-returns-2
 returns-2 c =
-    let s = c .before .before .before .before .before .before in
-    (omega arith, omega arith, (omega arith, omega arith), rw add-sub-cancel-left (s .pre .1 .1))
+    let f = c .before .before .before in
+    let s = f .before .before .before in
+    let i = s .args .input in
+    let j = f .fill .result in
+    let e : j .at + s .args .head - s .args .head ≡ j .at = omega arith in
+    let same = first-same i j (now (s .args .buffer)) (f .fill .last .0) (s .pre .0) (f .fill .ensures .0) (s .pre .1 .1 .1 .0) (f .fill .ensures .1) in (
+      (
+        omega arith,
+        omega arith,
+        (omega arith, omega arith),
+        rw add-sub-cancel-left (s .pre .1 .1 .0),
+        rw e (same ∙ s .pre .1 .1 .1 .1),
+        rw e (f .fill .ensures .1),
+      ),
+      refl,
+    )
 
 pub whole-spec : {M : Type 1} → statement M
 whole-spec =

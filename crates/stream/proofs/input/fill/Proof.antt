@@ -1,0 +1,41 @@
+use mathlib.Core.Path.{_≡_}
+use native.Mathlib.Omega.{arith}
+use lib.Seq.{take-length}
+use denote.Ref.{now}
+use Rattle.stream.proofs.InputLaws.{moved-begins}
+use borrow.Author.Needs.{needs}
+use Rattle.stream.proofs.input.fill.Statement.{statement}
+use Rattle.stream.proofs.input.fill.Tie as tie
+
+sub-if1 : tie.Need-sub-if1
+sub-if1 c = search needs
+
+returns : tie.Need-returns
+returns c = (search needs, take-length _)
+
+move-to-start-requires : tie.Need-move-to-start-requires
+move-to-start-requires c κs = search needs
+
+sub-read-behind : tie.Need-sub-read-behind
+sub-read-behind c = search needs
+
+read-behind-requires : tie.Need-read-behind-requires
+read-behind-requires c κs = search needs
+
+same-length : tie.Need-same-length
+same-length c = search needs
+
+returns-2 : tie.Need-returns-2
+returns-2 c =
+    let r = c .before .before in
+    let m = r .before .before .before .before in
+    let s = m .before .before .before .before in (
+      search needs,
+      moved-begins (s .args .input) (now (s .args .buffer)) (m .move-to-start .last .0) (r .read-behind .last .0) (r .read-behind .result)
+          (s .pre) (r .read-behind .ensures .0 .0) (m .move-to-start .ensures) (r .read-behind .ensures .1),
+    )
+
+pub fill-spec : {M : Type 1} → statement M
+fill-spec =
+    tie.close
+    (tie.spec sub-if1 returns move-to-start-requires sub-read-behind read-behind-requires same-length returns-2)
