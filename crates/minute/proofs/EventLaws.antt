@@ -1,17 +1,18 @@
 -- Laws of event records one after the other. Assumes nothing.
-use mathlib.Core.Path.{_≡_, refl, sym, ap, subst, _∙_}
+use mathlib.Core.Path.{_≡_, refl, sym, ap, _∙_}
 use mathlib.Core.List.{List}
 use mathlib.Core.Logic.{⊎-elim}
-use Prim.Native.Nat.{ℕ, zero, suc, _+_, _-_, _*_, _≤_, _<_, min}
+use Prim.Native.Nat.{ℕ, suc, _+_, _-_, _≤_, min}
 use native.Mathlib.Nat.{eq-or-lt-of-le, not-suc-le-zero}
 use native.Mathlib.Omega.{arith}
-use lib.ListN.{length, getD, take, drop, length-drop}
-use lib.Seq.{drop-drop, getD-take, getD-drop}
+use lib.ListN.{getD, take, drop, length-drop}
+use lib.Seq.{drop-drop}
 use Rattle.load.proofs.ListLaws.{part-of-reach}
 use Rattle.state.specs.declared.State.{State}
 use Rattle.stream.specs.declared.input.Input.{Input}
 use Rattle.stream.specs.Input.{Held, waitingIn}
 use Rattle.stream.specs.Record.{recordAnswer, recordSlots}
+use Rattle.stream.proofs.InputLaws.{waiting-byte}
 use Rattle.minute.specs.Events.{bodyOf, ranOf, EventsRun}
 
 -- ---- what waits, by its place in the buffer
@@ -23,15 +24,12 @@ module _ (input : Input) (b : List ℕ) (h : Held input b) (u : ℕ) where
       part-of-reach (drop (input .at) b) n u (input .end - input .at) (omega arith) (omega (arith, length-drop (input .at) b))
       ∙ rw m (ap (take n) (drop-drop u (input .at) b))
 
-  waiting-byte : u < input .end - input .at → getD (waitingIn input b) u 0 ≡ getD b (input .at + u) 0
-  waiting-byte g = getD-take (input .end - input .at) (drop (input .at) b) u 0 g ∙ getD-drop (input .at) b u 0
-
 -- the event record that begins at `from`: its kind, and its body
 module _ (input : Input) (b : List ℕ) (h : Held input b) (from : ℕ) (l : input .at ≤ from) (g : from + 8 ≤ input .end) where
   pub record-kind : getD (waitingIn input b) (from - input .at) 0 ≡ getD b from 0
   record-kind =
       let e : input .at + (from - input .at) ≡ from = omega arith in
-      waiting-byte input b h (from - input .at) (omega arith) ∙ ap (λ (k : ℕ). getD b k 0) e
+      waiting-byte input b (from - input .at) (omega arith) ∙ ap (λ (k : ℕ). getD b k 0) e
 
   pub record-body : take (from + 8 - (from + 1)) (drop (from + 1) b) ≡ take 7 (drop (from - input .at + 1) (waitingIn input b))
   record-body =

@@ -1,3 +1,4 @@
 -- Laws that the proofs cite.
 mod LineLaws
 mod EventLaws
+mod RecordLaws

@@ -2,3 +2,4 @@
 pub mod Line
 pub mod Events
 pub mod Calls
+pub mod Record

@@ -1,7 +1,7 @@
 // The records of minute: each kind has a body of one length.
 ghost use Prim.Native.Nat.{_≤_};
 ghost use Rattle.stream.specs.Input.{Held, waitingIn};
-ghost use Rattle.stream.specs.Record.{LongAs, FoundIn};
+ghost use Rattle.minute.specs.Record.{Long, FirstOf};
 use stream::input::Input;
 use stream::record::Next;
 
@@ -10,7 +10,7 @@ const LINE_BYTES: usize = 80;
 
 // The length of a kind's body; 0 for no kind.
 fn body_bytes(kind: u8) -> usize
-    ensures { λ r. ⌜ (r ≤ 80) × LongAs kind r ⌝ }
+    ensures { λ r. ⌜ (r ≤ 80) × Long kind r ⌝ }
 {
     if kind == stream::record::LINE {
         LINE_BYTES
@@ -22,7 +22,7 @@ fn body_bytes(kind: u8) -> usize
 // The record that stands next in the input, its body right behind its kind.
 pub fn next(buffer: &mut [u8], input: Input) -> Next
     requires { ⌜ Held input (now buffer) ⌝ }
-    ensures { λ r. ⌜ FoundIn (λ _. 1) r (waitingIn input (now (buffer .entry))) (now (buffer .exit)) ⌝ }
+    ensures { λ r. ⌜ FirstOf r (waitingIn input (now (buffer .entry))) (now (buffer .exit)) ⌝ }
 {
     let one = stream::input::fill(buffer, input, 1);
     let at = one.at;

@@ -1,12 +1,27 @@
--- Records of replay. Assumes nothing.
-use mathlib.Core.Bool.{Bool, _||_, cond}
-use Prim.Native.Nat.{ℕ}
+-- Records of replay: as minute's, but lines, packages and packets have their length in front. Assumes nothing.
+use mathlib.Core.Bool.{Bool, true, _||_, cond}
+use mathlib.Core.List.{List}
+use mathlib.Core.Path.{_≡_}
+use Prim.Native.Nat.{ℕ, _-_}
 use lib.Dec.{eqb}
+use Rattle.wire.specs.Bytes.{at16}
+use Rattle.stream.specs.Record.{LongAs, FoundIn}
+use Rattle.stream.specs.declared.record.Next.{Next}
+use Rattle.stream.specs.declared.record.Next.the-variants.{End, Bad, Record}
 
--- lines, packages and packets have their length in front
 abbrev pub isCounted : ℕ → Bool
 isCounted kind = eqb kind 3 || eqb kind 5 || eqb kind 6
 
 -- how many bytes stand before a body: its kind, and a length of two bytes if it has one
 abbrev pub headOf : ℕ → ℕ
 headOf kind = cond (isCounted kind) 3 1
+
+-- the body of a record has the length of its kind, or the one in front of it
+abbrev pub BodyLong : Next → (buffer : List ℕ) → Type 0
+BodyLong End buffer = Unit {0}
+BodyLong Bad buffer = Unit {0}
+BodyLong (Record kind from rest) buffer = LongAs kind (rest .at - from) × (isCounted kind ≡ true → rest .at - from ≡ at16 buffer (from - 2))
+
+-- the record that stands first where the bytes `old` wait
+abbrev pub FirstOf : Next → (old buffer : List ℕ) → Type 0
+FirstOf r old buffer = FoundIn headOf r old buffer × BodyLong r buffer

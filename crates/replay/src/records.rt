@@ -1,10 +1,10 @@
 // The records of a list of calls.
+ghost use mathlib.Core.Bool.{true};
 ghost use mathlib.Core.Path.{_≡_};
-ghost use Prim.Native.Nat.{ℕ, _<_};
+ghost use Prim.Native.Nat.{_<_};
 ghost use lib.ListN.{getD};
 ghost use Rattle.stream.specs.Input.{Held, waitingIn};
-ghost use Rattle.stream.specs.Record.{LongAs, FoundIn, KindIs};
-ghost use Rattle.replay.specs.Record.{isCounted, headOf};
+ghost use Rattle.replay.specs.Record.{isCounted, FirstOf};
 use stream::input::Input;
 use stream::record::Next;
 use stream::record::whole;
@@ -27,10 +27,9 @@ const COUNTED: usize = 3;
 // A record whose body has its length in front, in two bytes.
 fn counted(buffer: &mut [u8], input: Input, kind: u8) -> Next
     requires { ⌜ Held input (now buffer) ⌝ }
-    requires { ⌜ ((n : ℕ) → LongAs kind n) ⌝ }
+    requires { ⌜ isCounted kind ≡ true ⌝ }
     requires { ⌜ (input .at < input .end) × (getD (now buffer) (input .at) 0 ≡ kind) ⌝ }
-    ensures { λ r. ⌜ FoundIn (λ _. 3) r (waitingIn input (now (buffer .entry))) (now (buffer .exit)) ⌝ }
-    ensures { λ r. ⌜ KindIs kind r ⌝ }
+    ensures { λ r. ⌜ FirstOf r (waitingIn input (now (buffer .entry))) (now (buffer .exit)) ⌝ }
 {
     let three = stream::input::fill(buffer, input, COUNTED);
     let at = three.at;
@@ -44,7 +43,7 @@ fn counted(buffer: &mut [u8], input: Input, kind: u8) -> Next
 // The record that stands next in the input.
 pub fn next(buffer: &mut [u8], input: Input) -> Next
     requires { ⌜ Held input (now buffer) ⌝ }
-    ensures { λ r. ⌜ FoundIn headOf r (waitingIn input (now (buffer .entry))) (now (buffer .exit)) ⌝ }
+    ensures { λ r. ⌜ FirstOf r (waitingIn input (now (buffer .entry))) (now (buffer .exit)) ⌝ }
 {
     let one = stream::input::fill(buffer, input, 1);
     let at = one.at;

@@ -1,9 +1,8 @@
 -- Laws of buffered input: bytes that are moved, and bytes that are read behind others. Assumes nothing.
-use mathlib.Core.Path.{_≡_, refl, sym, ap, _∙_}
+use mathlib.Core.Path.{_≡_, sym, ap, _∙_}
 use mathlib.Core.List.{List, [], _∷_, _++_}
 use Prim.Native.Nat.{ℕ, suc, _+_, _-_, _≤_, _<_}
 use native.Mathlib.Omega.{arith}
-use native.Mathlib.Numerals.{add-one}
 use lib.ListN.{length, take, drop, getD, set, length-drop, length-take}
 use lib.Seq.{take-suc, take-suc-set, drop-set-lt, drop-drop, getD-drop, take-take, getD-take, length-take-le}
 use borrow.Rule.Slice.PartMut.{putMid, take-put}
@@ -13,8 +12,8 @@ use Rattle.stream.specs.Input.{Held, waitingIn, Begins}
 -- ---- bytes moved to the start: those up to i are at their place, those from i on still where they were
 
 module _ (b b₀ : List ℕ) (at i : ℕ) (h : at ≤ i) (g : i < length b₀) (l : length b ≡ length b₀) (rest : drop i b ≡ drop i b₀) where
-  byte-same : getD b i 0 ≡ getD (drop at b₀) (i - at) 0
-  byte-same =
+  byte-moved : getD b i 0 ≡ getD (drop at b₀) (i - at) 0
+  byte-moved =
       let e : at + (i - at) ≡ i = omega arith in
       let z : i + 0 ≡ i = omega arith in
       ap (λ (k : ℕ). getD b k 0) (sym z)
@@ -30,7 +29,7 @@ module _ (b b₀ : List ℕ) (at i : ℕ) (h : at ≤ i) (g : i < length b₀) (
       rw k
       (take-suc-set b (i - at) (getD b i 0) (omega arith)
       ∙ ap (λ (x : List ℕ). x ++ getD b i 0 ∷ []) e
-      ∙ ap (λ (v : ℕ). take (i - at) (drop at b₀) ++ v ∷ []) byte-same
+      ∙ ap (λ (v : ℕ). take (i - at) (drop at b₀) ++ v ∷ []) byte-moved
       ∙ sym (take-suc (drop at b₀) (i - at) 0 (omega (arith, length-drop at b₀))))
 
   pub rest-one : drop (i + 1) (set b (i - at) (getD b i 0)) ≡ drop (i + 1) b₀
@@ -77,18 +76,23 @@ begins-none old new h l =
     let z : length old ≡ 0 = omega (arith, begins-length old new h) in
     sym h ∙ ap (λ (n : ℕ). take n new) z
 
-waiting-first : (input : Input) (b : List ℕ) → input .at < input .end → getD (waitingIn input b) 0 0 ≡ getD b (input .at) 0
-waiting-first input b h =
-    let z : input .at + 0 ≡ input .at = omega arith in
-    getD-take (input .end - input .at) (drop (input .at) b) 0 0 (omega arith)
-    ∙ getD-drop (input .at) b 0 0
-    ∙ ap (λ (k : ℕ). getD b k 0) z
+-- a byte that waits, by its place in the buffer
+pub waiting-byte : (input : Input) (b : List ℕ) (u : ℕ) → u < input .end - input .at → getD (waitingIn input b) u 0 ≡ getD b (input .at + u) 0
+waiting-byte input b u h = getD-take (input .end - input .at) (drop (input .at) b) u 0 h ∙ getD-drop (input .at) b u 0
 
--- the first byte that waits stays the first
-pub first-same : (i j : Input) (b c : List ℕ) → Held i b → Held j c → i .at < i .end → Begins (waitingIn i b) (waitingIn j c) → getD c (j .at) 0 ≡ getD b (i .at) 0
-first-same i j b c h g l e =
-    let m = begins-length (waitingIn i b) (waitingIn j c) e in
-    sym (waiting-first j c (omega (arith, length-waiting i b h, length-waiting j c g)))
-    ∙ sym (getD-take (length (waitingIn i b)) (waitingIn j c) 0 0 (omega (arith, length-waiting i b h)))
-    ∙ ap (λ (x : List ℕ). getD x 0 0) e
-    ∙ waiting-first i b l
+-- the bytes that waited are the first that wait
+module _ (i j : Input) (b c : List ℕ) (h : Held i b) (g : Held j c) (e : Begins (waitingIn i b) (waitingIn j c)) where
+  pub byte-same : (u : ℕ) → u < i .end - i .at → getD c (j .at + u) 0 ≡ getD b (i .at + u) 0
+  byte-same u l =
+      let n = length-waiting i b h in
+      let m = begins-length (waitingIn i b) (waitingIn j c) e in
+      sym (waiting-byte j c u (omega (arith, n, m, length-waiting j c g)))
+      ∙ sym (getD-take (length (waitingIn i b)) (waitingIn j c) u 0 (omega (arith, n)))
+      ∙ ap (λ (x : List ℕ). getD x u 0) e
+      ∙ waiting-byte i b u l
+
+  pub first-same : i .at < i .end → getD c (j .at) 0 ≡ getD b (i .at) 0
+  first-same l =
+      let z : j .at + 0 ≡ j .at = omega arith in
+      let y : i .at + 0 ≡ i .at = omega arith in
+      ap (λ (k : ℕ). getD c k 0) (sym z) ∙ byte-same 0 (omega arith) ∙ ap (λ (k : ℕ). getD b k 0) y

@@ -20,8 +20,8 @@ abbrev pub LongAs : (kind n : ℕ) → Type 0
 LongAs kind n = (kind ≡ 1 → n ≡ 7) × (kind ≡ 2 → n ≡ 16) × (kind ≡ 4 → n ≡ 4)
 
 -- what was found where the bytes `old` waited, in the buffer as it is now. The end: none waited. A record: its kind stands
--- before its body (by as many bytes as `head` says), its body has the length of its kind, the rest of the input stands
--- behind it, and what waited begins at its kind
+-- before its body (by as many bytes as `head` says), the rest of the input stands behind it, and what waited begins at its
+-- kind
 abbrev pub FoundIn : (head : ℕ → ℕ) → Next → (old buffer : List ℕ) → Type 0
 FoundIn head End old buffer = old ≡ []
 FoundIn head Bad old buffer = Unit {0}
@@ -29,15 +29,14 @@ FoundIn head (Record kind from rest) old buffer =
     (head kind ≤ from)
     × (from ≤ rest .at)
     × Held rest buffer
-    × LongAs kind (rest .at - from)
     × (getD buffer (from - head kind) 0 ≡ kind)
     × Begins old (waitingIn (record { at = from - head kind; end = rest .end }) buffer)
 
--- a record that was found is of this kind
-abbrev pub KindIs : ℕ → Next → Type 0
-KindIs k End = Unit {0}
-KindIs k Bad = Unit {0}
-KindIs k (Record kind from rest) = kind ≡ k
+-- a record that was found has this kind, and a body of n bytes
+abbrev pub IsOf : (kind n : ℕ) → Next → Type 0
+IsOf k n End = Unit {0}
+IsOf k n Bad = Unit {0}
+IsOf k n (Record kind from rest) = (kind ≡ k) × (rest .at - from ≡ n)
 
 -- ---- an event's body: "t, high, low, flags FLG0 1, FLG1 2, error 4, valid stop 8"
 

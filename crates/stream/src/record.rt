@@ -4,7 +4,7 @@ ghost use Prim.Native.Nat.{_+_, _≤_, _<_};
 ghost use lib.ListN.{length, getD};
 ghost use Rattle.processor.specs.Reading.{readingAnswer};
 ghost use Rattle.stream.specs.Input.{Held, waitingIn, inputBytes};
-ghost use Rattle.stream.specs.Record.{LongAs, FoundIn, KindIs, flagOf, eventIn, recordAnswer, recordSlots, countsIn};
+ghost use Rattle.stream.specs.Record.{LongAs, FoundIn, IsOf, flagOf, eventIn, recordAnswer, recordSlots, countsIn};
 use crate::input::Input;
 use processor::Answer;
 use sort::event::Event;
@@ -101,10 +101,9 @@ pub fn fixed_bytes(kind: u8) -> usize
 pub fn whole(buffer: &mut [u8], input: Input, kind: u8, head: usize, n: usize) -> Next
     requires { ⌜ Held input (now buffer) ⌝ }
     requires { ⌜ (1 ≤ head) × (head + n ≤ inputBytes) ⌝ }
-    requires { ⌜ LongAs kind n ⌝ }
     requires { ⌜ (input .at < input .end) × (getD (now buffer) (input .at) 0 ≡ kind) ⌝ }
     ensures { λ r. ⌜ FoundIn (λ _. head) r (waitingIn input (now (buffer .entry))) (now (buffer .exit)) ⌝ }
-    ensures { λ r. ⌜ KindIs kind r ⌝ }
+    ensures { λ r. ⌜ IsOf kind n r ⌝ }
 {
     let filled = crate::input::fill(buffer, input, head + n);
     let at = filled.at;

@@ -6,9 +6,10 @@ use mathlib.Core.List.{List}
 use lib.ListN.{length}
 use denote.Ref.{now}
 use Rattle.stream.specs.Input.{waitingIn}
-use Rattle.stream.specs.Record.{LongAs, FoundIn}
+use Rattle.stream.specs.Record.{LongAs}
 use Rattle.stream.specs.declared.record.Next.{Next}
 use Rattle.stream.specs.declared.record.Next.the-variants.{Record}
+use Rattle.minute.specs.Record.{FirstOf}
 use borrow.Author.Needs.{needs}
 use Rattle.minute.proofs.step.Statement.{statement}
 use Rattle.minute.proofs.step.Tie as tie
@@ -21,14 +22,13 @@ waited c =
 
 lies :
     (c : tie.After-found) →
-    FoundIn
-    (λ _. 1)
+    FirstOf
     (Record (c .found .given .0 .0) (c .found .given .0 .1 .0) (c .found .given .0 .1 .1 .0))
     (waited c)
     (c .before .before .before .before .next .last .0)
 lies c =
     let n = c .before .before .before .before .next in
-    subst (λ (x : Next). FoundIn (λ _. 1) x (waited c) (n .last .0)) (c .found .given .1) (n .ensures)
+    subst (λ (x : Next). FirstOf x (waited c) (n .last .0)) (c .found .given .1) (n .ensures)
 
 next-requires : tie.Need-next-requires
 next-requires c κs = search needs
@@ -49,10 +49,10 @@ enum-known-found : tie.Need-enum-known-found
 enum-known-found c = search needs
 
 sub-t24 : tie.Need-sub-t24
-sub-t24 c = lies (c .before .before) .0
+sub-t24 c = lies (c .before .before) .0 .0
 
 events-requires : tie.Need-events-requires
-events-requires c κs = let l = lies (c .before .before .before .before .before .before .before) in omega (arith, l .1, l .2)
+events-requires c κs = let l = lies (c .before .before .before .before .before .before .before) in omega (arith, l .0)
 
 same-length : tie.Need-same-length
 same-length c = search needs
@@ -70,19 +70,19 @@ returns : tie.Need-returns
 returns c = search needs
 
 sub-body : tie.Need-sub-body
-sub-body c = lies (c .before .before) .1
+sub-body c = lies (c .before .before) .0 .1
 
 part-body-start : tie.Need-part-body-start
-part-body-start c = lies (c .before .before .before) .1
+part-body-start c = lies (c .before .before .before) .0 .1
 
 part-body-end : tie.Need-part-body-end
-part-body-end c = omega (arith, lies (c .before .before .before) .2)
+part-body-end c = omega (arith, lies (c .before .before .before) .0 .2)
 
 carry-out-requires : tie.Need-carry-out-requires
 carry-out-requires c κs =
     let b = c .before .before .before .before in
     let f = b .before .before .before .before in
-    subst (LongAs (f .found .given .0 .0)) (b .body .given .1) (lies f .3)
+    subst (LongAs (f .found .given .0 .0)) (b .body .given .1) (lies f .1 .0)
 
 print-refusal-requires : tie.Need-print-refusal-requires
 print-refusal-requires c κs = search needs
@@ -126,7 +126,7 @@ same-length-11 c =
 returns-4 : tie.Need-returns-4
 returns-4 c =
     let l = lies (c .before .before .before .before .before .before .before .before .before .before .before .before .before .before .before .before .before .before) in
-    omega (arith, c .going-on .ensures, l .2)
+    omega (arith, c .going-on .ensures, l .0 .2)
 
 pub step-spec : {M : Type 1} → statement M
 step-spec =

@@ -4,6 +4,7 @@ use denote.Ref.{now}
 use Rattle.stream.specs.Input.{waitingIn}
 use Rattle.stream.proofs.InputLaws.{length-waiting, begins-none}
 use Rattle.stream.proofs.RecordLaws.{found-then}
+use Rattle.minute.proofs.RecordLaws.{body-long}
 use borrow.Author.Needs.{needs}
 use Rattle.minute.proofs.records.next.Statement.{statement}
 use Rattle.minute.proofs.records.next.Tie as tie
@@ -19,7 +20,7 @@ returns c =
     let f = c .before .before .before .before in
     let s = f .before .before .before in
     let l = length-waiting (f .fill .result) (f .fill .last .0) (f .fill .ensures .0) in
-    begins-none (waitingIn (s .args .input) (now (s .args .buffer))) _ (f .fill .ensures .1) (omega (arith, l))
+    (begins-none (waitingIn (s .args .input) (now (s .args .buffer))) _ (f .fill .ensures .1) (omega (arith, l)), tt)
 
 slice-read-kind : tie.Need-slice-read-kind
 slice-read-kind c = search needs
@@ -37,7 +38,7 @@ whole-requires : tie.Need-whole-requires
 whole-requires c κs =
     let n = c .before .before .body-bytes .ensures in
     let f = c .before .before .before .before .before .before .before .before in
-    (f .fill .ensures .0, (omega (arith, n .0), (n .1, (omega (arith, f .fill .ensures .0), refl))))
+    (f .fill .ensures .0, (omega (arith, n .0), (omega (arith, f .fill .ensures .0), refl)))
 
 same-length-3 : tie.Need-same-length-3
 same-length-3 c = search needs
@@ -45,9 +46,12 @@ same-length-3 c = search needs
 returns-3 : tie.Need-returns-3
 returns-3 c =
     let w = c .before .before in
-    let f = c .before .before .before .before .before .before .before .before .before .before .before in
-    let s = f .before .before .before in
-    found-then (λ _. 1) (w .whole .result) (waitingIn (s .args .input) (now (s .args .buffer))) _ _ (f .fill .ensures .1) (w .whole .ensures .0)
+    let n = w .before .before .before .body-bytes .ensures in
+    let f = w .before .before .before .before .before .before .before .before .before in
+    let s = f .before .before .before in (
+      found-then (λ _. 1) (w .whole .result) (waitingIn (s .args .input) (now (s .args .buffer))) _ _ (f .fill .ensures .1) (w .whole .ensures .0),
+      body-long _ _ (w .whole .result) (n .1) (w .whole .ensures .1),
+    )
 
 pub next-spec : {M : Type 1} → statement M
 next-spec =

@@ -3,7 +3,9 @@ use native.Mathlib.Omega.{arith}
 use denote.Ref.{now}
 use Rattle.stream.specs.Input.{waitingIn}
 use Rattle.stream.proofs.InputLaws.{first-same}
-use Rattle.stream.proofs.RecordLaws.{found-then}
+use Rattle.stream.proofs.RecordLaws.{found-then, found-head}
+use Rattle.replay.specs.Record.{headOf}
+use Rattle.replay.proofs.RecordLaws.{head-three, counted-body}
 use borrow.Author.Needs.{needs}
 use Rattle.replay.proofs.records.counted.Statement.{statement}
 use Rattle.replay.proofs.records.counted.Tie as tie
@@ -34,8 +36,9 @@ whole-requires c κs =
     let u = c .before in
     let f = u .before .before .before .before .before .before in
     let s = f .before .before .before in
-    let same = first-same (s .args .input) (f .fill .result) (now (s .args .buffer)) (f .fill .last .0) (s .pre .0) (f .fill .ensures .0) (s .pre .1 .1 .0) (f .fill .ensures .1) in
-    (f .fill .ensures .0, (omega (arith, u .u16-at .ok), (s .pre .1 .0 _, (omega arith, same ∙ s .pre .1 .1 .1))))
+    let new = s .pre .1 .1 in
+    let same = first-same (s .args .input) (f .fill .result) (now (s .args .buffer)) (f .fill .last .0) (s .pre .0) (f .fill .ensures .0) (f .fill .ensures .1) (new .0) in
+    (f .fill .ensures .0, (omega (arith, u .u16-at .ok), (omega arith, same ∙ new .1)))
 
 same-length-2 : tie.Need-same-length-2
 same-length-2 c = search needs
@@ -43,9 +46,17 @@ same-length-2 c = search needs
 returns-2 : tie.Need-returns-2
 returns-2 c =
     let w = c .before .before in
-    let f = w .before .before .before .before .before .before .before .before in
+    let u = w .before .before in
+    let f = u .before .before .before .before .before .before in
     let s = f .before .before .before in
-    (found-then (λ _. 3) (w .whole .result) (waitingIn (s .args .input) (now (s .args .buffer))) _ _ (f .fill .ensures .1) (w .whole .ensures .0), w .whole .ensures .1)
+    let k = s .args .kind in
+    let t = s .pre .1 .0 in
+    let old = waitingIn (s .args .input) (now (s .args .buffer)) in
+    let r = w .whole .result in
+    let q = w .whole .ensures .1 in (
+      found-head (λ _. 3) headOf k _ r old _ (head-three k t) q (found-then (λ _. 3) r old _ _ (f .fill .ensures .1) (w .whole .ensures .0)),
+      counted-body k _ r (f .fill .result) (f .fill .last .0) _ t (f .fill .ensures .0) (omega arith) (u .u16-at .ensures) q (w .whole .ensures .0),
+    )
 
 pub counted-spec : {M : Type 1} → statement M
 counted-spec =

@@ -6,7 +6,7 @@ use Rattle.stream.specs.Input.{waitingIn}
 use Rattle.stream.proofs.InputLaws.{length-waiting, begins-none}
 use Rattle.stream.proofs.RecordLaws.{found-then, found-head}
 use Rattle.replay.specs.Record.{headOf}
-use Rattle.replay.proofs.RecordLaws.{counted-long, head-three, head-one}
+use Rattle.replay.proofs.RecordLaws.{head-one, own-long}
 use borrow.Author.Needs.{needs}
 use Rattle.replay.proofs.records.next.Statement.{statement}
 use Rattle.replay.proofs.records.next.Tie as tie
@@ -22,7 +22,7 @@ returns c =
     let f = c .before .before .before .before in
     let s = f .before .before .before in
     let l = length-waiting (f .fill .result) (f .fill .last .0) (f .fill .ensures .0) in
-    begins-none (waitingIn (s .args .input) (now (s .args .buffer))) _ (f .fill .ensures .1) (omega (arith, l))
+    (begins-none (waitingIn (s .args .input) (now (s .args .buffer))) _ (f .fill .ensures .1) (omega (arith, l)), tt)
 
 slice-read-kind : tie.Need-slice-read-kind
 slice-read-kind c = search needs
@@ -34,7 +34,7 @@ counted-requires : tie.Need-counted-requires
 counted-requires c κs =
     let f = c .before .before .before .before .before .before .before .before in
     let t = sym (c .before .before .is-counted .ensures) ∙ c .before .if2 .taken in
-    (f .fill .ensures .0, ((λ n. counted-long _ n t), (omega (arith, f .fill .ensures .0), refl)))
+    (f .fill .ensures .0, (t, (omega (arith, f .fill .ensures .0), refl)))
 
 same-length-2 : tie.Need-same-length-2
 same-length-2 c = search needs
@@ -42,14 +42,11 @@ same-length-2 c = search needs
 returns-2 : tie.Need-returns-2
 returns-2 c =
     let w = c .before .before in
-    let i = w .before .before .before in
-    let f = i .before .before .before .before .before .before in
-    let s = f .before .before .before in
-    let old = waitingIn (s .args .input) (now (s .args .buffer)) in
-    let k = getD (f .fill .last .0) (f .fill .result .at) 0 in
-    let t = sym (i .is-counted .ensures) ∙ w .before .before .if2 .taken in
-    found-head (λ _. 3) headOf k (w .counted .result) old _ (head-three k t) (w .counted .ensures .1)
-    (found-then (λ _. 3) (w .counted .result) old _ _ (f .fill .ensures .1) (w .counted .ensures .0))
+    let f = w .before .before .before .before .before .before .before .before .before in
+    let s = f .before .before .before in (
+      found-then headOf (w .counted .result) (waitingIn (s .args .input) (now (s .args .buffer))) _ _ (f .fill .ensures .1) (w .counted .ensures .0),
+      w .counted .ensures .1,
+    )
 
 fixed-bytes-requires : tie.Need-fixed-bytes-requires
 fixed-bytes-requires c κs = search needs
@@ -64,7 +61,7 @@ whole-requires : tie.Need-whole-requires
 whole-requires c κs =
     let n = c .before .before .fixed-bytes .ensures in
     let f = c .before .before .before .before .before .before .before .before .before .before in
-    (f .fill .ensures .0, (omega (arith, n .0), (n .1, (omega (arith, f .fill .ensures .0), refl))))
+    (f .fill .ensures .0, (omega (arith, n .0), (omega (arith, f .fill .ensures .0), refl)))
 
 same-length-4 : tie.Need-same-length-4
 same-length-4 c = search needs
@@ -72,14 +69,18 @@ same-length-4 c = search needs
 returns-4 : tie.Need-returns-4
 returns-4 c =
     let w = c .before .before in
+    let n = w .before .before .before .fixed-bytes .ensures in
     let i = w .before .before .before .before .before in
     let f = i .before .before .before .before .before .before in
     let s = f .before .before .before in
     let old = waitingIn (s .args .input) (now (s .args .buffer)) in
     let k = getD (f .fill .last .0) (f .fill .result .at) 0 in
     let t = sym (i .is-counted .ensures) ∙ w .before .before .before .before .if2 .left in
-    found-head (λ _. 1) headOf k (w .whole .result) old _ (head-one k t) (w .whole .ensures .1)
-    (found-then (λ _. 1) (w .whole .result) old _ _ (f .fill .ensures .1) (w .whole .ensures .0))
+    let r = w .whole .result in
+    let q = w .whole .ensures .1 in (
+      found-head (λ _. 1) headOf k _ r old _ (head-one k t) q (found-then (λ _. 1) r old _ _ (f .fill .ensures .1) (w .whole .ensures .0)),
+      own-long k _ r _ t (n .1) q,
+    )
 
 pub next-spec : {M : Type 1} → statement M
 next-spec =

@@ -1,5 +1,3 @@
-use mathlib.Core.Path.{_≡_}
-use native.Mathlib.Omega.{arith}
 use lib.Seq.{take-length}
 use denote.Ref.{now}
 use Rattle.stream.proofs.InputLaws.{moved-begins}

@@ -42,16 +42,10 @@ returns-2 c =
     let i = s .args .input in
     let j = f .fill .result in
     let e : j .at + s .args .head - s .args .head ≡ j .at = omega arith in
-    let same = first-same i j (now (s .args .buffer)) (f .fill .last .0) (s .pre .0) (f .fill .ensures .0) (s .pre .1 .1 .1 .0) (f .fill .ensures .1) in (
-      (
-        omega arith,
-        omega arith,
-        (omega arith, omega arith),
-        rw add-sub-cancel-left (s .pre .1 .1 .0),
-        rw e (same ∙ s .pre .1 .1 .1 .1),
-        rw e (f .fill .ensures .1),
-      ),
-      refl,
+    let new = s .pre .1 .1 in
+    let same = first-same i j (now (s .args .buffer)) (f .fill .last .0) (s .pre .0) (f .fill .ensures .0) (f .fill .ensures .1) (new .0) in (
+      (omega arith, omega arith, (omega arith, omega arith), rw e (same ∙ new .1), rw e (f .fill .ensures .1)),
+      (refl, add-sub-cancel-left _ _),
     )
 
 pub whole-spec : {M : Type 1} → statement M
