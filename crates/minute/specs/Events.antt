@@ -1,7 +1,8 @@
 -- Event records one after the other (document 01, "The program minute"). Assumes nothing.
 use mathlib.Core.Path.{_≡_}
+use mathlib.Core.Logic.{_⊎_}
 use mathlib.Core.List.{List}
-use Prim.Native.Nat.{ℕ, zero, suc, _+_, _*_, _<_}
+use Prim.Native.Nat.{ℕ, zero, suc, _+_, _-_, _*_, _<_}
 use lib.ListN.{getD, take, drop}
 use Rattle.state.specs.declared.State.{State}
 use Rattle.stream.specs.Record.{recordAnswer, recordSlots}
@@ -24,3 +25,7 @@ pub record EventsRun (s : State) (tables slots bytes : List ℕ) (used : ℕ) (a
   pub kinds : (i : ℕ) → i < many → getD bytes (8 * i) 0 ≡ 1
   pub state-is : after ≡ ranOf s tables slots bytes many .0
   pub slots-are : left ≡ ranOf s tables slots bytes many .1
+
+-- no event record stands at this place of the buffer: fewer than eight bytes wait, or another kind stands there
+abbrev pub NoEvent : (at end : ℕ) (buffer : List ℕ) → Type 0
+NoEvent at end buffer = (end - at < 8) ⊎ (getD buffer at 0 ≡ 1 → ⊥)

@@ -3,3 +3,4 @@ pub mod Line
 pub mod Events
 pub mod Calls
 pub mod Record
+pub mod Step

@@ -1,4 +1,5 @@
 // The calls, and what is printed of their answers.
+ghost use mathlib.Core.Bool.{true};
 ghost use mathlib.Core.Path.{_≡_};
 ghost use Prim.Native.Nat.{_-_, _≤_};
 ghost use lib.ListN.{length};
@@ -9,7 +10,7 @@ ghost use Rattle.processor.specs.Close.{outBytes, closeTables, closeSlots};
 ghost use Rattle.stream.specs.Input.{Held, waitingIn};
 ghost use Rattle.stream.specs.Record.{LongAs};
 ghost use Rattle.minute.specs.Calls.{closed, carriedOut, tablesThen, slotsThen};
-ghost use Rattle.minute.specs.Events.{EventsRun};
+ghost use Rattle.minute.specs.Events.{EventsRun, NoEvent};
 ghost use Rattle.minute.specs.Line.{lineLength, lineIn};
 use processor::Answer;
 use processor::close::Closed;
@@ -136,6 +137,7 @@ pub fn events(
     requires { ⌜ Held input (now buffer) ⌝ }
     ensures input { λ r. ⌜ Held (r .input) (now (buffer .entry)) × (input .at ≤ r .input .at) × (r .input .end ≡ input .end) ⌝ }
     ensures run { λ r. ⌜ EventsRun state (now (tables .entry)) (now (slots .entry)) (waitingIn input (now (buffer .entry))) (r .input .at - input .at) (r .state) (now (slots .exit)) ⌝ }
+    ensures all { λ r. ⌜ NoEvent (r .input .at) (r .input .end) (now (buffer .entry)) × (r .more ≡ true) ⌝ }
 {
     let end = input.end;
     let mut after = state;

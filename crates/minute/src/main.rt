@@ -3,6 +3,7 @@ mod calls;
 mod records;
 
 ghost use Rattle.stream.specs.Input.{Held};
+ghost use Rattle.minute.specs.Step.{LiesIn, Stepped};
 use libc::STDOUT_FILENO;
 use state::State;
 use stream::input::Input;
@@ -14,21 +15,21 @@ use stream::record::going_on;
 use stream::record::left;
 use stream::record::stopped;
 
-// The next record, or the end.
+// What was found is carried out.
 fn step(
     state: State,
-    input: Input,
+    found: Next,
     tables: &mut [u8],
     staging: &[u8],
     slots: &mut [u32],
-    buffer: &mut [u8],
+    buffer: &[u8],
     text: &mut [u8],
     at: &mut usize,
 ) -> Step
-    requires { ⌜ Held input (now buffer) ⌝ }
-    ensures { λ r. ⌜ Held (r .input) (now (buffer .exit)) ⌝ }
+    requires { ⌜ LiesIn found (now buffer) ⌝ }
+    ensures input { λ r. ⌜ Held (r .input) (now (buffer .entry)) ⌝ }
+    ensures step { λ r. ⌜ Stepped found state (now (tables .entry)) (now (staging .entry)) (now (slots .entry)) (now (buffer .entry)) r (now (tables .exit)) (now (slots .exit)) ⌝ }
 {
-    let found = records::next(buffer, input);
     match found {
         Next::End => stopped(state),
         Next::Bad => bad(state, text, at),
@@ -58,7 +59,8 @@ fn run(tables: &mut [u8], staging: &[u8], slots: &mut [u32], buffer: &mut [u8], 
     let mut at: usize = 0;
     let mut records = MOST_RECORDS;
     while 0 < records {
-        let done = step(state, input, tables, staging, slots, buffer, text, &mut at);
+        let found = records::next(buffer, input);
+        let done = step(state, found, tables, staging, slots, buffer, text, &mut at);
         state = done.state;
         input = done.input;
         records = left(records, done.more);

@@ -1,4 +1,5 @@
 // The bodies of the records that both programs read.
+ghost use mathlib.Core.Bool.{true, false};
 ghost use mathlib.Core.Path.{_≡_};
 ghost use Prim.Native.Nat.{_+_, _≤_, _<_};
 ghost use lib.ListN.{length, getD};
@@ -40,7 +41,7 @@ pub fn left(records: u64, more: bool) -> u64
 
 // The program goes on with this input.
 pub fn going_on(state: State, input: Input) -> Step
-    ensures { λ r. ⌜ (r .state ≡ state) × (r .input .at ≡ input .at) × (r .input .end ≡ input .end) ⌝ }
+    ensures { λ r. ⌜ (r .state ≡ state) × (r .input .at ≡ input .at) × (r .input .end ≡ input .end) × (r .more ≡ true) ⌝ }
 {
     Step {
         state,
@@ -51,7 +52,7 @@ pub fn going_on(state: State, input: Input) -> Step
 
 // The end of a program.
 pub fn stopped(state: State) -> Step
-    ensures { λ r. ⌜ (r .input .at ≤ 0) × (r .input .end ≤ 0) ⌝ }
+    ensures { λ r. ⌜ (r .state ≡ state) × (r .input .at ≤ 0) × (r .input .end ≤ 0) × (r .more ≡ false) ⌝ }
 {
     let input = crate::input::none();
     Step {
@@ -63,7 +64,7 @@ pub fn stopped(state: State) -> Step
 
 // A bad record is printed, and ends the program.
 pub fn bad(state: State, text: &mut [u8], at: &mut usize) -> Step
-    ensures { λ r. ⌜ (r .input .at ≤ 0) × (r .input .end ≤ 0) ⌝ }
+    ensures { λ r. ⌜ (r .state ≡ state) × (r .input .at ≤ 0) × (r .input .end ≤ 0) × (r .more ≡ false) ⌝ }
 {
     crate::text::bad_record(text, at);
     stopped(state)

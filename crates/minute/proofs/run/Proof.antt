@@ -1,6 +1,8 @@
 use mathlib.Core.Path.{_≡_}
+use native.Mathlib.Omega.{arith}
 use lib.ListN.{length}
 use Rattle.stream.specs.Input.{Held}
+use Rattle.minute.proofs.RecordLaws.{first-lies}
 use borrow.Author.Needs.{needs}
 use Rattle.minute.proofs.run.Statement.{statement}
 use Rattle.minute.proofs.run.Tie as tie
@@ -20,8 +22,13 @@ none-requires c κs = search needs
 loop-holds : tie.Need-loop-holds Inv-loop μ-loop
 loop-holds c = search needs
 
+next-requires : tie.Need-next-requires Inv-loop μ-loop
+next-requires c κs = search needs
+
 step-requires : tie.Need-step-requires Inv-loop μ-loop
-step-requires c κs = search needs
+step-requires c κs =
+    let n = c .before .before .before .before .before .before .before .next in
+    first-lies (n .result) _ (n .last .0) (n .ensures)
 
 left-requires : tie.Need-left-requires Inv-loop μ-loop
 left-requires c κs = search needs
@@ -30,7 +37,10 @@ loop-less : tie.Need-loop-less Inv-loop μ-loop
 loop-less c = search needs
 
 loop-again : tie.Need-loop-again Inv-loop μ-loop
-loop-again c = search needs
+loop-again c =
+    let s = c .before .before .before .before .before .before .before .before .before in
+    let n = s .before .before .before .before .before .before .before .before in
+    omega (arith, s .step, n .next, n .before .before .before .loop .inv)
 
 flush-requires : tie.Need-flush-requires Inv-loop μ-loop
 flush-requires c κs = search needs
@@ -59,6 +69,7 @@ run-spec =
     fresh-requires
     none-requires
     loop-holds
+    next-requires
     step-requires
     left-requires
     loop-less

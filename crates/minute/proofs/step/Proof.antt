@@ -1,37 +1,26 @@
-use mathlib.Core.Path.{subst, ap}
+use mathlib.Core.Path.{refl, sym, ap, subst, _∙_}
 use mathlib.Core.Logic.{⊎-elim}
 use native.Mathlib.Omega.{arith}
-use Prim.Native.Nat.{ℕ}
-use mathlib.Core.List.{List}
 use lib.ListN.{length}
 use denote.Ref.{now}
-use Rattle.stream.specs.Input.{waitingIn}
+use Rattle.processor.specs.declared.Answer.{Answer}
 use Rattle.stream.specs.Record.{LongAs}
 use Rattle.stream.specs.declared.record.Next.{Next}
 use Rattle.stream.specs.declared.record.Next.the-variants.{Record}
-use Rattle.minute.specs.Record.{FirstOf}
+use Rattle.minute.specs.Step.{LiesIn, Stepped}
 use borrow.Author.Needs.{needs}
 use Rattle.minute.proofs.step.Statement.{statement}
 use Rattle.minute.proofs.step.Tie as tie
 
--- the record that was found, and the bytes that waited before it was looked for
-abbrev waited : tie.After-found → List ℕ
-waited c =
-    let s = c .before .before .before .before .before .before .before .before .before .before .before in
-    waitingIn (s .args .input) (now (s .args .buffer))
-
+-- the record that was found lies in the buffer
 lies :
     (c : tie.After-found) →
-    FirstOf
+    LiesIn
     (Record (c .found .given .0 .0) (c .found .given .0 .1 .0) (c .found .given .0 .1 .1 .0))
-    (waited c)
-    (c .before .before .before .before .next .last .0)
+    (now (c .before .before .before .before .before .before .before .args .buffer))
 lies c =
-    let n = c .before .before .before .before .next in
-    subst (λ (x : Next). FirstOf x (waited c) (n .last .0)) (c .found .given .1) (n .ensures)
-
-next-requires : tie.Need-next-requires
-next-requires c κs = search needs
+    let s = c .before .before .before .before .before .before .before in
+    subst (λ (x : Next). LiesIn x (now (s .args .buffer))) (c .found .given .1) (s .pre)
 
 enum-told : tie.Need-enum-told
 enum-told c = search needs
@@ -48,11 +37,11 @@ bad-requires c κs = search needs
 enum-known-found : tie.Need-enum-known-found
 enum-known-found c = search needs
 
-sub-t24 : tie.Need-sub-t24
-sub-t24 c = lies (c .before .before) .0 .0
+sub-t21 : tie.Need-sub-t21
+sub-t21 c = lies (c .before .before) .0
 
 events-requires : tie.Need-events-requires
-events-requires c κs = let l = lies (c .before .before .before .before .before .before .before) in omega (arith, l .0)
+events-requires c κs = let l = lies (c .before .before .before .before .before .before) in omega (arith, l .1, l .2)
 
 same-length : tie.Need-same-length
 same-length c = search needs
@@ -63,26 +52,32 @@ same-length-2 c = search needs
 same-length-3 : tie.Need-same-length-3
 same-length-3 c = search needs
 
-same-length-4 : tie.Need-same-length-4
-same-length-4 c = search needs
-
 returns : tie.Need-returns
-returns c = search needs
+returns c =
+    let x = c .before .before .before .before in
+    let t = x .before .before .before .before .before in
+    let f = t .before .before in
+    let a = f .before .before .before .before .before .before .before .args in
+    let e = x .events .ensures in (
+      e .0 .0,
+      subst (λ (n : Next). Stepped n (a .state) (now (a .tables)) (now (a .staging)) (now (a .slots)) (now (a .buffer)) (x .events .result) (now (a .tables)) (x .events .last .1 .1 .1 .0)) (sym (f .found .given .1))
+          (λ _. (e .1 .0, e .1 .1 .0, refl, e .1 .1 .1), λ n. absurd (n (t .if1 .taken))),
+    )
 
 sub-body : tie.Need-sub-body
-sub-body c = lies (c .before .before) .0 .1
+sub-body c = lies (c .before .before) .1
 
 part-body-start : tie.Need-part-body-start
-part-body-start c = lies (c .before .before .before) .0 .1
+part-body-start c = lies (c .before .before) .1
 
 part-body-end : tie.Need-part-body-end
-part-body-end c = omega (arith, lies (c .before .before .before) .0 .2)
+part-body-end c = omega (arith, lies (c .before .before) .2)
 
 carry-out-requires : tie.Need-carry-out-requires
 carry-out-requires c κs =
     let b = c .before .before .before .before in
-    let f = b .before .before .before .before in
-    subst (LongAs (f .found .given .0 .0)) (b .body .given .1) (lies f .1 .0)
+    let f = b .before .before .before in
+    subst (LongAs (f .found .given .0 .0)) (b .body .given .1) (lies f .3 .0)
 
 print-refusal-requires : tie.Need-print-refusal-requires
 print-refusal-requires c κs = search needs
@@ -90,33 +85,38 @@ print-refusal-requires c κs = search needs
 going-on-requires : tie.Need-going-on-requires
 going-on-requires c κs = search needs
 
+returns-2 : tie.Need-returns-2
+returns-2 c =
+    let t = c .before in
+    let a = t .before .before .before .before .before .before .before .args in
+    let e = c .stopped .ensures in (
+      omega (arith, e .1, e .2),
+      subst (λ (n : Next). Stepped n (a .state) (now (a .tables)) (now (a .staging)) (now (a .slots)) (now (a .buffer)) (c .stopped .result) (now (a .tables)) (now (a .slots))) (sym (t .enum-told .given .1))
+          (e .0, refl, refl, e .3),
+    )
+
+same-length-4 : tie.Need-same-length-4
+same-length-4 c = search needs
+
+returns-3 : tie.Need-returns-3
+returns-3 c =
+    let x = c .before .before in
+    let t = x .before .before .before in
+    let a = t .before .before .before .before .before .before .before .args in
+    let e = x .bad .ensures in (
+      omega (arith, e .1, e .2),
+      subst (λ (n : Next). Stepped n (a .state) (now (a .tables)) (now (a .staging)) (now (a .slots)) (now (a .buffer)) (x .bad .result) (now (a .tables)) (now (a .slots))) (sym (t .enum-told2 .given .1))
+          (e .0, refl, refl, e .3),
+    )
+
 same-length-5 : tie.Need-same-length-5
 same-length-5 c = search needs
-
-returns-2 : tie.Need-returns-2
-returns-2 c = search needs
 
 same-length-6 : tie.Need-same-length-6
 same-length-6 c = search needs
 
 same-length-7 : tie.Need-same-length-7
-same-length-7 c = search needs
-
-returns-3 : tie.Need-returns-3
-returns-3 c = search needs
-
-same-length-8 : tie.Need-same-length-8
-same-length-8 c = search needs
-
-same-length-9 : tie.Need-same-length-9
-same-length-9 c = search needs
-
-same-length-10 : tie.Need-same-length-10
-same-length-10 c =
-    c .before .before .before .before .before .before .before .before .before .before .before .before .before .before .before .before .before .before .before .before .before .before .next .kept .0
-
-same-length-11 : tie.Need-same-length-11
-same-length-11 c =
+same-length-7 c =
     let k = c .before .before .before .before .before .before .before .before .before .carry-out .kept in
     ⊎-elim
     (λ w. omega (arith, w .3 .kept .0, ap length (w .6), k))
@@ -125,25 +125,31 @@ same-length-11 c =
 
 returns-4 : tie.Need-returns-4
 returns-4 c =
-    let l = lies (c .before .before .before .before .before .before .before .before .before .before .before .before .before .before .before .before .before .before) in
-    omega (arith, c .going-on .ensures, l .0 .2)
+    let x = c .before .before .before .before .before .before .before .before .before in
+    let t = x .before .before .before .before .before .before in
+    let f = t .before .before in
+    let a = f .before .before .before .before .before .before .before .args in
+    let e = x .carry-out .ensures in
+    let g = c .going-on .ensures in (
+      omega (arith, g .1, g .2, lies f .2),
+      subst (λ (n : Next). Stepped n (a .state) (now (a .tables)) (now (a .staging)) (now (a .slots)) (now (a .buffer)) (c .going-on .result) (x .carry-out .last .1 .1 .0) (x .carry-out .last .1 .1 .1 .1 .0)) (sym (f .found .given .1))
+          ((λ k. absurd (t .if1 .left k)), (λ _. (g .0 ∙ ap (λ (y : Answer). y .state) (e .0), e .1 .0, e .1 .1, g .1, g .2, g .3))),
+    )
 
 pub step-spec : {M : Type 1} → statement M
 step-spec =
     tie.close
     (tie.spec
-    next-requires
     enum-told
     stopped-requires
     enum-told-2
     bad-requires
     enum-known-found
-    sub-t24
+    sub-t21
     events-requires
     same-length
     same-length-2
     same-length-3
-    same-length-4
     returns
     sub-body
     part-body-start
@@ -151,13 +157,10 @@ step-spec =
     carry-out-requires
     print-refusal-requires
     going-on-requires
-    same-length-5
     returns-2
+    same-length-4
+    returns-3
+    same-length-5
     same-length-6
     same-length-7
-    returns-3
-    same-length-8
-    same-length-9
-    same-length-10
-    same-length-11
     returns-4)

@@ -1,6 +1,6 @@
 use Prim.Native.Nat.{_≤_, _+_, _-_}
 use mathlib.Core.Path.{_≡_, refl, ap, _∙_}
-use mathlib.Core.Logic.{⊎-elim}
+use mathlib.Core.Logic.{inl, inr, ⊎-elim}
 use native.Mathlib.Omega.{arith}
 use lib.ListN.{length, take, drop}
 use denote.Ref.{now}
@@ -44,7 +44,7 @@ returns : tie.Need-returns Inv-loop μ-loop
 returns c =
     let v = c .before .before .before .before .loop .inv in
     let g = c .going-on .ensures in
-    (search needs, rw (g .0, g .1) (v .4))
+    (search needs, (rw (g .0, g .1) (v .4), (rw (g .1, g .2) (inr (c .before .if1 .taken)), g .3)))
 
 add-body : tie.Need-add-body Inv-loop μ-loop
 add-body c = search needs
@@ -111,7 +111,7 @@ returns-2 : tie.Need-returns-2 Inv-loop μ-loop
 returns-2 c =
     let v = c .before .before .loop .inv in
     let g = c .going-on2 .ensures in
-    (search needs, rw (g .0, g .1) (v .4))
+    (search needs, (rw (g .0, g .1) (v .4), (rw (g .1, g .2) (inl (c .before .loop-test .left)), g .3)))
 
 pub events-spec : {M : Type 1} → statement M
 events-spec =
