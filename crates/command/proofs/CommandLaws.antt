@@ -1,7 +1,7 @@
--- Laws of lines and commands. Assumes nothing.
+-- What a line gives is in its range, and a command in its range keeps the settings in theirs. Assumes nothing.
 use mathlib.Core.Path.{_≡_, refl, sym, ap, _∙_}
 use mathlib.Core.Bool.{Bool, true, false, cond}
-use mathlib.Core.List.{List, [], _∷_}
+use mathlib.Core.List.{List, [], _∷_, _++_, map}
 use Prim.Native.Nat.{ℕ, _≤_}
 use Prim.Native.String.{String}
 use lib.Dec.{leb, eqb}
@@ -10,23 +10,27 @@ use borrow.Author.Tests.{leb-true}
 use Rattle.settings.specs.declared.Settings.{Settings}
 use Rattle.settings.specs.Settings.{settingsWithin}
 use Rattle.command.specs.Text.{text, same}
-use Rattle.command.specs.Grammar.{rightIf, look, withOne, withTwo, oneArgument, twoArguments, ofWords, wordsOf, argumentOf, lineOf, commandOk}
+use Rattle.command.specs.Grammar.{rightIf, look, settingWords, mostOf, setLine, withOne, withTwo, oneArgument, twoArguments}
+use Rattle.command.specs.Grammar.{ofWords, lineWords, argumentOf, lineOf, commandOk}
 use Rattle.command.specs.Change.{settingsAfter}
 use Rattle.command.specs.declared.command.Command.{Command}
-use Rattle.command.specs.declared.command.Command.the-variants.{Limhi, Eonly, Toferror, Junk, Hv, Hvstep, Load}
+use Rattle.command.specs.declared.command.Command.the-variants.{Set, Load}
+use Rattle.command.specs.declared.command.Setting.{Setting}
+use Rattle.command.specs.declared.command.Setting.the-variants.{Limhi, Eonly, Toferror, Junk, Hv, Hvstep}
 use Rattle.command.specs.declared.command.Line.{Line}
 use Rattle.command.specs.declared.command.Line.the-variants.{Empty, Wrong, Waits, LoadZero, LoadAt}
 use Rattle.command.specs.declared.argument.Argument.{Argument}
 use Rattle.command.specs.declared.argument.Argument.the-variants.{Value, Malformed}
 
 -- a command in its ranges keeps the settings in theirs
-pub settings-kept : (s : Settings) (c : Command) (reach : ℕ) → settingsWithin s ≡ true → commandOk c reach ≡ true → settingsWithin (settingsAfter s c) ≡ true
-settings-kept s (Limhi n) reach h g = g
-settings-kept s (Eonly b) reach h g = h
-settings-kept s (Toferror b) reach h g = h
-settings-kept s (Junk b) reach h g = h
-settings-kept s (Hv b) reach h g = h
-settings-kept s (Hvstep n) reach h g = h
+pub settings-kept : (s : Settings) (c : Command) (reach : ℕ) → settingsWithin s ≡ true → commandOk c reach ≡ true
+    → settingsWithin (settingsAfter s c) ≡ true
+settings-kept s (Set Limhi n) reach h g = g
+settings-kept s (Set Eonly n) reach h g = h
+settings-kept s (Set Toferror n) reach h g = h
+settings-kept s (Set Junk n) reach h g = h
+settings-kept s (Set Hv n) reach h g = h
+settings-kept s (Set Hvstep n) reach h g = h
 settings-kept s (Load a y) reach h g = h
 
 -- ---- what a line gives is in its ranges
@@ -47,32 +51,39 @@ entry-ok : (t : Bool) (l m : Line) (reach : ℕ) → lineOk l reach ≡ true →
 entry-ok true l m reach h g = h
 entry-ok false l m reach h g = g
 
-look-ok : (k : List ℕ) (s : String) (l : Line) (es : List (String × Line)) (reach : ℕ) → lineOk l reach ≡ true → lineOk (look k es) reach ≡ true → lineOk (look k ((s, l) ∷ es)) reach ≡ true
-unfolding look
-look-ok k s l es reach h g = entry-ok (same k (text s)) l (look k es) reach h g
+-- a table of keywords whose lines are all in their ranges
+module _ (k : List ℕ) (reach : ℕ) where
+  look-ok : (s : String) (l : Line) (es : List (String × Line)) → lineOk l reach ≡ true → lineOk (look k es) reach ≡ true
+      → lineOk (look k ((s, l) ∷ es)) reach ≡ true
+  unfolding look
+  look-ok s l es h g = entry-ok (same k (text s)) l (look k es) reach h g
 
-none-ok : (k : List ℕ) (reach : ℕ) → lineOk (look k []) reach ≡ true
-unfolding lineOk look
-none-ok k reach = refl
+  none-ok : lineOk (look k []) reach ≡ true
+  unfolding lineOk look
+  none-ok = refl
+
+  set-ok : (x : Setting) (n : ℕ) → lineOk (setLine x n) reach ≡ true
+  unfolding lineOk
+  set-ok x n = right-ok (leb n (mostOf x)) (Waits (Set x n)) reach (λ h. h)
+
+  settings-ok : (ws : List (String × Setting)) (n : ℕ) (es : List (String × Line)) → lineOk (look k es) reach ≡ true
+      → lineOk (look k (map (λ e. (e .0, setLine (e .1) n)) ws ++ es)) reach ≡ true
+  settings-ok [] n es h = h
+  settings-ok (w ∷ ws) n es h = look-ok (w .0) (setLine (w .1) n) _ (set-ok (w .1) n) (settings-ok ws n es h)
 
 one-ok : (k : List ℕ) (n : Argument) (reach : ℕ) → lineOk (oneArgument k n reach) reach ≡ true
 unfolding lineOk oneArgument withOne
 one-ok k Malformed reach = refl
 one-ok k (Value n) reach =
-    look-ok k _ _ _ reach (right-ok _ (Waits (Limhi n)) reach (λ h. h))
-    (look-ok k _ _ _ reach (right-ok _ _ reach (λ h. refl))
-    (look-ok k _ _ _ reach (right-ok _ _ reach (λ h. refl))
-    (look-ok k _ _ _ reach (right-ok _ _ reach (λ h. refl))
-    (look-ok k _ _ _ reach (right-ok _ _ reach (λ h. refl))
-    (look-ok k _ _ _ reach (right-ok _ (Waits (Hvstep n)) reach (λ h. h))
-    (look-ok k _ _ _ reach (right-ok _ _ reach (λ h. refl))
-    (look-ok k _ _ _ reach (right-ok _ (LoadAt n) reach (λ h. h)) (none-ok k reach))))))))
+    settings-ok k reach settingWords n _
+    (look-ok k reach _ _ _ (right-ok (eqb n 0) LoadZero reach (λ h. refl))
+    (look-ok k reach _ _ _ (right-ok (leb n reach) (LoadAt n) reach (λ h. h)) (none-ok k reach)))
 
 two-ok : (k : List ℕ) (n m : Argument) (reach : ℕ) → lineOk (twoArguments k n m reach) reach ≡ true
 unfolding lineOk twoArguments withTwo
 two-ok k Malformed m reach = refl
 two-ok k (Value n) Malformed reach = refl
-two-ok k (Value n) (Value m) reach = look-ok k _ _ _ reach (right-ok _ (Waits (Load n m)) reach (λ h. h)) (none-ok k reach)
+two-ok k (Value n) (Value m) reach = look-ok k reach _ _ _ (right-ok _ (Waits (Load n m)) reach (λ h. h)) (none-ok k reach)
 
 of-words-ok : (ws : List (List ℕ)) (reach : ℕ) → lineOk (ofWords ws reach) reach ≡ true
 unfolding lineOk ofWords
@@ -84,7 +95,7 @@ of-words-ok (k ∷ a ∷ b ∷ c ∷ ws) reach = refl
 
 line-ok : (line : List ℕ) (reach : ℕ) → lineOk (lineOf line reach) reach ≡ true
 unfolding lineOk lineOf
-line-ok line reach = entry-ok (eqb (length line) 0) Empty (ofWords (wordsOf line) reach) reach refl (of-words-ok (wordsOf line) reach)
+line-ok line reach = entry-ok (eqb (length line) 0) Empty (ofWords (lineWords line) reach) reach refl (of-words-ok (lineWords line) reach)
 
 pub waits-ok : (line : List ℕ) (reach : ℕ) (c : Command) → lineOf line reach ≡ Waits c → commandOk c reach ≡ true
 unfolding lineOk

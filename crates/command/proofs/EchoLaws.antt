@@ -9,7 +9,8 @@ use Rattle.wire.proofs.Bytes.{then, put-all}
 use Rattle.wire.specs.Pieces.{padded}
 use Rattle.wire.proofs.Pieces.{padded-is, length-padded}
 use Rattle.command.specs.Text.{text}
-use Rattle.command.specs.Echo.{hex2, ending, echoBytes, echoed, acceptedEcho, refusedEcho, promptEcho, packageOkEcho, packageErrorEcho}
+use Rattle.command.specs.Echo.{hex2, ending, echoBytes, echoed, acceptedEcho, refusedEcho, promptEcho}
+use Rattle.command.specs.Echo.{packageOkEcho, packageErrorEcho}
 
 -- two runs that are all of the list
 filled : {x₁ x₂ : List ℕ} (xs p q : List ℕ) (n : ℕ) → length p ≡ n → length p + length q ≡ length xs

@@ -5,17 +5,21 @@ use mathlib.Core.Bool.{Bool, true, false}
 use mathlib.Core.List.{List, [], _∷_, _++_}
 use mathlib.Core.Logic.{⊎-elim}
 use Prim.Native.Nat.{ℕ, _+_, _-_, _/_, _%_, _≤_, _<_}
+use Prim.Native.String.{String}
 use native.Mathlib.Omega.{arith}
 use lib.Dec.{leb, eqb}
 use borrow.Author.Tests.{leb-true, leb-false, le-leb, lt-leb, ne-eqb}
 use Rattle.wire.specs.Lists.{all}
-use Rattle.load.proofs.ListLaws.{either}
+use Rattle.wire.proofs.Lists.{either}
 use Rattle.load.proofs.LoadLaws.{lawful-is}
 use Rattle.command.specs.Text.{text, same}
-use Rattle.command.specs.Grammar.{printable, bytesOk, wordsOf, isDigit, digitValue, argumentOf, rightIf, look, withOne, withTwo, oneArgument, twoArguments, ofWords, lineOf, commandOk}
+use Rattle.command.specs.Grammar.{printable, bytesOk, lineWords, isDigit, digitValue, argumentOf, rightIf, look, mostOf}
+use Rattle.command.specs.Grammar.{withOne, withTwo, oneArgument, twoArguments, ofWords, lineOf, commandOk}
 use Rattle.command.specs.Echo.{hexDigit, hex2}
 use Rattle.command.specs.declared.command.Command.{Command}
-use Rattle.command.specs.declared.command.Command.the-variants.{Limhi, Eonly, Toferror, Junk, Hv, Hvstep, Load}
+use Rattle.command.specs.declared.command.Command.the-variants.{Set, Load}
+use Rattle.command.specs.declared.command.Setting.{Setting}
+use Rattle.command.specs.declared.command.Setting.the-variants.{Limhi, Eonly, Toferror, Junk, Hv, Hvstep}
 use Rattle.command.specs.declared.command.Line.the-variants.{Waits}
 use Rattle.command.specs.declared.argument.Argument.{Argument}
 use Rattle.command.specs.declared.argument.Argument.the-variants.{Value}
@@ -69,12 +73,12 @@ module _ (n : ℕ) (h : n < 65536) where
   d₄ : Digit (n % 256 % 16)
   d₄ = digit (n % 256 % 16) (omega arith)
 
-  words-digits : wordsOf (digits n) ≡ digits n ∷ []
-  unfolding wordsOf
+  words-digits : lineWords (digits n) ≡ digits n ∷ []
+  unfolding lineWords
   words-digits = rw (d₁ .apart, d₂ .apart, d₃ .apart, d₄ .apart)
 
-  words-digits-more : (w : List ℕ) → wordsOf (digits n ++ 32 ∷ w) ≡ digits n ∷ wordsOf w
-  unfolding wordsOf
+  words-digits-more : (w : List ℕ) → lineWords (digits n ++ 32 ∷ w) ≡ digits n ∷ lineWords w
+  unfolding lineWords
   words-digits-more w = rw (d₁ .apart, d₂ .apart, d₃ .apart, d₄ .apart)
 
   argument-digits : argumentOf (digits n) ≡ Value n
@@ -87,62 +91,73 @@ module _ (n : ℕ) (h : n < 65536) where
 
 -- ---- a line for each command
 
-abbrev bit : Bool → ℕ
-bit true = 1
-bit false = 0
+-- each setting's keyword
+abbrev word : Setting → String
+word Limhi = "limhi"
+word Eonly = "eonly"
+word Toferror = "toferror"
+word Junk = "junk"
+word Hv = "hv"
+word Hvstep = "hvstep"
 
 abbrev lineFor : Command → List ℕ
-lineFor (Limhi n) = text "limhi " ++ digits n
-lineFor (Eonly b) = text "eonly " ++ digits (bit b)
-lineFor (Toferror b) = text "toferror " ++ digits (bit b)
-lineFor (Junk b) = text "junk " ++ digits (bit b)
-lineFor (Hv b) = text "hv " ++ digits (bit b)
-lineFor (Hvstep n) = text "hvstep " ++ digits n
-lineFor (Load a y) = text "load " ++ (digits a ++ 32 ∷ digits y)
+lineFor (Set k n) = text (word k) ++ 32 ∷ digits n
+lineFor (Load a y) = text "load" ++ 32 ∷ (digits a ++ 32 ∷ digits y)
+
+-- no value of a setting has more than four digits
+most-small : (k : Setting) (n : ℕ) → n ≤ mostOf k → n < 65536
+most-small Limhi n h = omega arith
+most-small Eonly n h = omega arith
+most-small Toferror n h = omega arith
+most-small Junk n h = omega arith
+most-small Hv n h = omega arith
+most-small Hvstep n h = omega arith
 
 -- a keyword and one number
-one-number : (k : List ℕ) (n reach : ℕ) → n < 65536 → ofWords (k ∷ wordsOf (digits n)) reach ≡ withOne k n reach
+one-number : (k : List ℕ) (n reach : ℕ) → n < 65536 → ofWords (k ∷ lineWords (digits n)) reach ≡ withOne k n reach
 unfolding ofWords oneArgument
 one-number k n reach h = rw (words-digits n h) (ap (λ (a : Argument). oneArgument k a reach) (argument-digits n h))
 
 -- and two
-two-numbers : (k : List ℕ) (a y reach : ℕ) → a < 65536 → y < 65536 → ofWords (k ∷ wordsOf (digits a ++ 32 ∷ digits y)) reach ≡ withTwo k a y reach
+two-numbers : (k : List ℕ) (a y reach : ℕ) → a < 65536 → y < 65536
+    → ofWords (k ∷ lineWords (digits a ++ 32 ∷ digits y)) reach ≡ withTwo k a y reach
 unfolding ofWords twoArguments
 two-numbers k a y reach h g =
     rw (words-digits-more a h (digits y), words-digits y g)
     (λ i. twoArguments k (argument-digits a h i) (argument-digits y g i) reach)
 
+-- a setting's line, where its keyword gives it
+gives-set : (k : Setting) (n reach : ℕ) → n < 65536 → leb n (mostOf k) ≡ true → lineOf (lineFor (Set k n)) reach ≡ Waits (Set k n)
+unfolding lineOf lineWords withOne look same rightIf
+gives-set Limhi n reach h g = one-number (text "limhi") n reach h ∙ rw g
+gives-set Eonly n reach h g = one-number (text "eonly") n reach h ∙ rw g
+gives-set Toferror n reach h g = one-number (text "toferror") n reach h ∙ rw g
+gives-set Junk n reach h g = one-number (text "junk") n reach h ∙ rw g
+gives-set Hv n reach h g = one-number (text "hv") n reach h ∙ rw g
+gives-set Hvstep n reach h g = one-number (text "hvstep") n reach h ∙ rw g
+
 gives : (c : Command) (reach : ℕ) → commandOk c reach ≡ true → lineOf (lineFor c) reach ≡ Waits c
-unfolding lineOf wordsOf withOne withTwo look same rightIf
-gives (Limhi n) reach h = one-number (text "limhi") n reach (omega (arith, leb-true n 704 h)) ∙ rw h
-gives (Eonly true) reach h = one-number (text "eonly") 1 reach (omega arith)
-gives (Eonly false) reach h = one-number (text "eonly") 0 reach (omega arith)
-gives (Toferror true) reach h = one-number (text "toferror") 1 reach (omega arith)
-gives (Toferror false) reach h = one-number (text "toferror") 0 reach (omega arith)
-gives (Junk true) reach h = one-number (text "junk") 1 reach (omega arith)
-gives (Junk false) reach h = one-number (text "junk") 0 reach (omega arith)
-gives (Hv true) reach h = one-number (text "hv") 1 reach (omega arith)
-gives (Hv false) reach h = one-number (text "hv") 0 reach (omega arith)
-gives (Hvstep n) reach h = one-number (text "hvstep") n reach (omega (arith, leb-true n 255 h)) ∙ rw h
+unfolding lineOf lineWords withTwo look same rightIf
+gives (Set k n) reach h = gives-set k n reach (most-small k n (leb-true n (mostOf k) h)) h
 gives (Load a y) reach h =
     let l = lawful-is a y reach h in
     two-numbers (text "load") a y reach (omega arith) (omega arith) ∙ rw h
 
+bytes-set : (k : Setting) (n : ℕ) → n < 65536 → bytesOk (lineFor (Set k n)) ≡ true
+bytes-set Limhi n h = all-digits n h []
+bytes-set Eonly n h = all-digits n h []
+bytes-set Toferror n h = all-digits n h []
+bytes-set Junk n h = all-digits n h []
+bytes-set Hv n h = all-digits n h []
+bytes-set Hvstep n h = all-digits n h []
+
 line-bytes : (c : Command) (reach : ℕ) → commandOk c reach ≡ true → bytesOk (lineFor c) ≡ true
-line-bytes (Limhi n) reach h = all-digits n (omega (arith, leb-true n 704 h)) []
-line-bytes (Eonly true) reach h = refl
-line-bytes (Eonly false) reach h = refl
-line-bytes (Toferror true) reach h = refl
-line-bytes (Toferror false) reach h = refl
-line-bytes (Junk true) reach h = refl
-line-bytes (Junk false) reach h = refl
-line-bytes (Hv true) reach h = refl
-line-bytes (Hv false) reach h = refl
-line-bytes (Hvstep n) reach h = all-digits n (omega (arith, leb-true n 255 h)) []
+line-bytes (Set k n) reach h = bytes-set k n (most-small k n (leb-true n (mostOf k) h))
 line-bytes (Load a y) reach h =
     let l = lawful-is a y reach h in
     all-digits a (omega arith) (32 ∷ digits y) ∙ all-digits y (omega arith) []
 
 -- a command that is ok is what some line gives
-pub ok-given : (c : Command) (reach : ℕ) → commandOk c reach ≡ true → (line : List ℕ) × ((bytesOk line ≡ true) × (lineOf line reach ≡ Waits c))
+pub ok-given : (c : Command) (reach : ℕ) → commandOk c reach ≡ true
+    → (line : List ℕ) × ((bytesOk line ≡ true) × (lineOf line reach ≡ Waits c))
 ok-given c reach h = (lineFor c, (line-bytes c reach h, gives c reach h))

@@ -13,9 +13,9 @@ use lib.Dec.{eqb, ltb}
 use Prim.Native.String.{String}
 use borrow.Author.Tests.{eq-eqb, ne-eqb, eqb-true, ltb-true, ltb-false}
 use Rattle.wire.specs.Lists.{all}
-use Rattle.load.proofs.ListLaws.{either}
+use Rattle.wire.proofs.Lists.{either}
 use Rattle.command.specs.Text.{same, text}
-use Rattle.command.specs.Grammar.{wordsOf, onto, isDigit, argumentOf, look, oneArgument, twoArguments, ofWords, lineOf}
+use Rattle.command.specs.Grammar.{lineWords, onto, isDigit, argumentOf, look, oneArgument, twoArguments, ofWords, lineOf}
 use Rattle.command.specs.Parsing.{wordLength}
 use Rattle.command.specs.declared.command.Line.{Line}
 use Rattle.command.specs.declared.command.Line.the-variants.{Wrong}
@@ -29,7 +29,8 @@ and-false false h = refl
 -- ---- the same word
 
 module _ (a b : List ℕ) (i : ℕ) where
-  pub same-step : i < length a → i < length b → getD a i 0 ≡ getD b i 0 → same (drop i a) (drop i b) ≡ same (drop (i + 1) a) (drop (i + 1) b)
+  pub same-step : i < length a → i < length b → getD a i 0 ≡ getD b i 0
+      → same (drop i a) (drop i b) ≡ same (drop (i + 1) a) (drop (i + 1) b)
   unfolding same
   same-step h g e = rw (drop-cons a i 0, drop-cons b i 0, add-one) (rw (eq-eqb _ _ e))
 
@@ -64,8 +65,8 @@ module _ (w : List ℕ) (i : ℕ) where
   length-end h = rw (drop-of-length-le w h)
 
 -- a word with no space is all of the line
-pub words-one : (w : List ℕ) → length w ≤ wordLength w → wordsOf w ≡ w ∷ []
-unfolding wordsOf wordLength
+pub words-one : (w : List ℕ) → length w ≤ wordLength w → lineWords w ≡ w ∷ []
+unfolding lineWords wordLength
 words-one [] h = refl
 words-one (b ∷ bs) h =
     ⊎-elim
@@ -74,8 +75,8 @@ words-one (b ∷ bs) h =
     (either (eqb b 32))
 
 -- the first word, and the words behind the first space
-pub words-more : (w : List ℕ) → wordLength w < length w → wordsOf w ≡ take (wordLength w) w ∷ wordsOf (drop (suc (wordLength w)) w)
-unfolding wordsOf wordLength
+pub words-more : (w : List ℕ) → wordLength w < length w → lineWords w ≡ take (wordLength w) w ∷ lineWords (drop (suc (wordLength w)) w)
+unfolding lineWords wordLength
 words-more [] h = absurd (not-suc-le-zero h)
 words-more (b ∷ bs) h =
     ⊎-elim
@@ -97,30 +98,13 @@ pub spaced-argument : (w : List ℕ) → wordLength w < length w → argumentOf 
 unfolding argumentOf
 spaced-argument w h = rw (and-false _ (spaced w h))
 
--- ---- keywords
-
-module _ (k : List ℕ) (s : String) (l : Line) (es : List (String × Line)) {t : Bool} (e : t ≡ same k (text s)) where
-  -- the table's first keyword
-  pub look-hit : t ≡ true → look k ((s, l) ∷ es) ≡ l
-  unfolding look
-  look-hit h = rw (sym e ∙ h)
-
-  -- another one
-  pub look-miss : t ≡ false → look k ((s, l) ∷ es) ≡ look k es
-  unfolding look
-  look-miss h = rw (sym e ∙ h)
-
-pub look-none : (k : List ℕ) → look k [] ≡ Wrong
-unfolding look
-look-none k = refl
-
 -- ---- lines of more than one argument
 
-more-words : (k a c : List ℕ) (w : List ℕ) (reach : ℕ) → ofWords (k ∷ a ∷ c ∷ wordsOf w) reach ≡ Wrong
-unfolding ofWords wordsOf
+more-words : (k a c : List ℕ) (w : List ℕ) (reach : ℕ) → ofWords (k ∷ a ∷ c ∷ lineWords w) reach ≡ Wrong
+unfolding ofWords lineWords
 more-words k a c [] reach = refl
 more-words k a c (b ∷ bs) reach =
-    ⊎-elim (λ e. rw e refl) (λ e. rw e (from (wordsOf bs))) (either (eqb b 32))
+    ⊎-elim (λ e. rw e refl) (λ e. rw e (from (lineWords bs))) (either (eqb b 32))
   where
     from : (ws : List (List ℕ)) → ofWords (k ∷ a ∷ c ∷ onto b ws) reach ≡ Wrong
     from [] = refl
@@ -132,7 +116,7 @@ malformed k Malformed reach = refl
 malformed k (Value n) reach = refl
 
 -- what stands behind the second space is the second argument, or the line is wrong
-pub of-words-two : (k a w : List ℕ) (reach : ℕ) → ofWords (k ∷ a ∷ wordsOf w) reach ≡ twoArguments k (argumentOf a) (argumentOf w) reach
+pub of-words-two : (k a w : List ℕ) (reach : ℕ) → ofWords (k ∷ a ∷ lineWords w) reach ≡ twoArguments k (argumentOf a) (argumentOf w) reach
 unfolding ofWords
 of-words-two k a w reach =
     ⊎-elim
@@ -154,7 +138,7 @@ module _ (line : List ℕ) (reach k : ℕ) (h : length line ≡ 0 → ⊥) (e : 
   line-bare g = rw (ne-eqb _ _ h) (rw (words-one line (omega arith)))
 
   module _ (rest : List ℕ) (d : rest ≡ drop (k + 1) line) (g : k < length line) where
-    words-at : wordsOf line ≡ take k line ∷ wordsOf rest
+    words-at : lineWords line ≡ take k line ∷ lineWords rest
     words-at = rw (d, e, add-one) (words-more line (omega arith))
 
     -- one space
@@ -163,7 +147,11 @@ module _ (line : List ℕ) (reach k : ℕ) (h : length line ≡ 0 → ⊥) (e : 
     line-one q = rw (ne-eqb _ _ h) (rw (words-at, words-one rest q))
 
     -- more
-    pub line-two : (m : ℕ) (last : List ℕ) → m ≡ wordLength rest → last ≡ drop (m + 1) rest → m < length rest → lineOf line reach ≡ twoArguments (take k line) (argumentOf (take m rest)) (argumentOf last) reach
+    pub line-two : (m : ℕ) (last : List ℕ) → m ≡ wordLength rest → last ≡ drop (m + 1) rest → m < length rest
+        → lineOf line reach ≡ twoArguments (take k line) (argumentOf (take m rest)) (argumentOf last) reach
     unfolding lineOf
     line-two m last em dm q =
-        rw (ne-eqb _ _ h) (rw (words-at, words-more rest (omega arith), dm, em, add-one) (of-words-two (take k line) (take (wordLength rest) rest) (drop (suc (wordLength rest)) rest) reach))
+        let n : ℕ = wordLength rest in
+        rw (ne-eqb _ _ h)
+        (rw (words-at, words-more rest (omega arith), dm, em, add-one)
+        (of-words-two (take k line) (take n rest) (drop (suc n) rest) reach))

@@ -2,15 +2,17 @@
 use Prim.Native.Nat.{ℕ, _+_, _-_, _*_}
 use Prim.Native.Char.{code}
 use Prim.Native.String.{String}
-use mathlib.Core.Bool.{Bool, true, _&&_, _||_, cond}
-use mathlib.Core.List.{List, [], _∷_}
+use mathlib.Core.Bool.{Bool, _&&_, _||_, cond}
+use mathlib.Core.List.{List, [], _∷_, _++_, map}
 use lib.Dec.{leb, eqb}
 use lib.ListN.{length}
 use Rattle.wire.specs.Lists.{all}
 use Rattle.command.specs.Text.{text, same}
 use Rattle.load.specs.Load.{loadLawful}
 use Rattle.command.specs.declared.command.Command.{Command}
-use Rattle.command.specs.declared.command.Command.the-variants.{Limhi, Eonly, Toferror, Junk, Hv, Hvstep, Load}
+use Rattle.command.specs.declared.command.Command.the-variants.{Set, Load}
+use Rattle.command.specs.declared.command.Setting.{Setting}
+use Rattle.command.specs.declared.command.Setting.the-variants.{Limhi, Eonly, Toferror, Junk, Hv, Hvstep}
 use Rattle.command.specs.declared.command.Line.{Line}
 use Rattle.command.specs.declared.command.Line.the-variants.{Empty, Wrong, Waits, LoadZero, LoadAt}
 use Rattle.command.specs.declared.argument.Argument.{Argument}
@@ -38,9 +40,9 @@ onto b (w ∷ ws) = (b ∷ w) ∷ ws
 
 -- the words of a line: what stands between its spaces. Two spaces together have an empty word between them, and a space
 -- at an end has one beside it
-unfoldable pub wordsOf : List ℕ → List (List ℕ)
-wordsOf [] = [] ∷ []
-wordsOf (b ∷ bs) = cond (eqb b space) ([] ∷ wordsOf bs) (onto b (wordsOf bs))
+unfoldable pub lineWords : List ℕ → List (List ℕ)
+lineWords [] = [] ∷ []
+lineWords (b ∷ bs) = cond (eqb b space) ([] ∷ lineWords bs) (onto b (lineWords bs))
 
 -- ---- arguments
 
@@ -76,19 +78,30 @@ unfoldable pub look : List ℕ → List (String × Line) → Line
 look k [] = Wrong
 look k (e ∷ es) = cond (same k (text (e .0))) (e .1) (look k es)
 
--- the keywords that take one argument, n: "limhi (0 to 2c0), eonly, toferror, junk, hv (0 or 1), hvstep (0 to ff) .. load 0
--- (one argument of value 0; any other single one is wrong), loadat a"; "loadat a needs a ≤ reach"
-abbrev pub keywords : ℕ → ℕ → List (String × Line)
+-- the settings' keywords
+abbrev pub settingWords : List (String × Setting)
+settingWords =
+    ("limhi", Limhi) ∷ ("eonly", Eonly) ∷ ("toferror", Toferror) ∷ ("junk", Junk) ∷ ("hv", Hv) ∷ ("hvstep", Hvstep) ∷ []
+
+-- a setting's largest value, the least being 0: "limhi (0 to 2c0), eonly, toferror, junk, hv (0 or 1), hvstep (0 to ff)"
+abbrev pub mostOf : Setting → ℕ
+mostOf Limhi = 0x2c0
+mostOf Eonly = 1
+mostOf Toferror = 1
+mostOf Junk = 1
+mostOf Hv = 1
+mostOf Hvstep = 0xff
+
+-- a setting's line
+abbrev pub setLine : Setting → ℕ → Line
+setLine k n = rightIf (leb n (mostOf k)) (Waits (Set k n))
+
+-- the keywords that take one argument, n: those of the settings, and "load 0 (one argument of value 0; any other single one is
+-- wrong), loadat a"; "loadat a needs a ≤ reach"
+abbrev pub keywords : (n reach : ℕ) → List (String × Line)
 keywords n reach =
-    ("limhi", rightIf (leb n 0x2c0) (Waits (Limhi n)))
-    ∷ ("eonly", rightIf (leb n 1) (Waits (Eonly (eqb n 1))))
-    ∷ ("toferror", rightIf (leb n 1) (Waits (Toferror (eqb n 1))))
-    ∷ ("junk", rightIf (leb n 1) (Waits (Junk (eqb n 1))))
-    ∷ ("hv", rightIf (leb n 1) (Waits (Hv (eqb n 1))))
-    ∷ ("hvstep", rightIf (leb n 0xff) (Waits (Hvstep n)))
-    ∷ ("load", rightIf (eqb n 0) LoadZero)
-    ∷ ("loadat", rightIf (leb n reach) (LoadAt n))
-    ∷ []
+    map (λ e. (e .0, setLine (e .1) n)) settingWords
+    ++ ("load", rightIf (eqb n 0) LoadZero) ∷ ("loadat", rightIf (leb n reach) (LoadAt n)) ∷ []
 
 unfoldable pub withOne : List ℕ → ℕ → ℕ → Line
 withOne k n reach = look k (keywords n reach)
@@ -120,14 +133,9 @@ ofWords (k ∷ a ∷ b ∷ c ∷ ws) reach = Wrong
 
 -- what a line is, at this reach: "Empty line: .. it answers 0 and is no command"
 unfoldable pub lineOf : List ℕ → ℕ → Line
-lineOf line reach = cond (eqb (length line) 0) Empty (ofWords (wordsOf line) reach)
+lineOf line reach = cond (eqb (length line) 0) Empty (ofWords (lineWords line) reach)
 
 -- whether some line gives this command at this reach ("a waiting command that no line could give" is cause 1)
-abbrev pub commandOk : Command → ℕ → Bool
-commandOk (Limhi n) reach = leb n 0x2c0
-commandOk (Eonly b) reach = true
-commandOk (Toferror b) reach = true
-commandOk (Junk b) reach = true
-commandOk (Hv b) reach = true
-commandOk (Hvstep n) reach = leb n 0xff
+abbrev pub commandOk : Command → (reach : ℕ) → Bool
+commandOk (Set k n) reach = leb n (mostOf k)
 commandOk (Load a y) reach = loadLawful a y reach

@@ -1,12 +1,14 @@
 // Keywords with their arguments, each in its range.
 ghost use mathlib.Core.Path.{_≡_};
-ghost use lib.Dec.{leb};
-ghost use Rattle.command.specs.Grammar.{rightIf, withOne, withTwo, oneArgument, twoArguments};
+ghost use mathlib.Core.Bool.{cond};
+ghost use Rattle.command.specs.Text.{same};
+ghost use Rattle.command.specs.Grammar.{rightIf, setLine, withOne, withTwo, oneArgument, twoArguments};
 ghost use Rattle.load.specs.Load.{loadLawful};
 use crate::argument::Argument;
 use crate::command::Command;
 use crate::command::Line;
-use crate::command::MAX_HVSTEP;
+use crate::command::Setting;
+use crate::command::most_of;
 use crate::words::same;
 use load::words::TWO_BYTES;
 use load::words::load_lawful;
@@ -17,27 +19,18 @@ fn right_if(ok: bool, l: Line) -> Line
     if ok { l } else { Line::Wrong }
 }
 
-fn limhi(n: u32) -> Line
-    ensures { λ r. ⌜ r ≡ rightIf (leb n 0x2c0) (Line.Waits (Command.Limhi n)) ⌝ }
+// The line that sets a setting to n.
+fn set_line(k: Setting, n: u32) -> Line
+    ensures { λ r. ⌜ r ≡ setLine k n ⌝ }
 {
-    if n <= settings::SLOTS as u32 {
-        Line::Waits(Command::Limhi(n as u16))
+    if n <= most_of(k) as u32 {
+        Line::Waits(Command::Set(k, n as u16))
     } else {
         Line::Wrong
     }
 }
 
-fn hvstep(n: u32) -> Line
-    ensures { λ r. ⌜ r ≡ rightIf (leb n 0xff) (Line.Waits (Command.Hvstep n)) ⌝ }
-{
-    if n <= MAX_HVSTEP as u32 {
-        Line::Waits(Command::Hvstep(n as u8))
-    } else {
-        Line::Wrong
-    }
-}
-
-fn load_from(a: u32, y: u32, reach: u32) -> Line
+fn load_line(a: u32, y: u32, reach: u32) -> Line
     ensures { λ r. ⌜ r ≡ rightIf (loadLawful a y reach) (Line.Waits (Command.Load a y)) ⌝ }
 {
     if y > TWO_BYTES as u32 {
@@ -50,45 +43,33 @@ fn load_from(a: u32, y: u32, reach: u32) -> Line
     )
 }
 
-// A keyword with one argument.
+// A row of a table of keywords: its line where the keyword is the row's word, and otherwise what the rows behind it say.
+fn row(keyword: &[u8], word: &[u8], l: Line, behind: Line) -> Line
+    ensures { λ r. ⌜ r ≡ cond (same (now (keyword .entry)) (now (word .entry))) l behind ⌝ }
+{
+    if same(keyword, word) { l } else { behind }
+}
+
+// A keyword with one argument: the table's rows, from the last to the first.
 fn with_one(keyword: &[u8], n: u32, reach: u32) -> Line
     ensures { λ r. ⌜ r ≡ withOne (now (keyword .entry)) n reach ⌝ }
 {
-    if same(keyword, b"limhi") {
-        return limhi(n);
-    }
-    if same(keyword, b"eonly") {
-        return right_if(n <= 1, Line::Waits(Command::Eonly(n == 1)));
-    }
-    if same(keyword, b"toferror") {
-        return right_if(n <= 1, Line::Waits(Command::Toferror(n == 1)));
-    }
-    if same(keyword, b"junk") {
-        return right_if(n <= 1, Line::Waits(Command::Junk(n == 1)));
-    }
-    if same(keyword, b"hv") {
-        return right_if(n <= 1, Line::Waits(Command::Hv(n == 1)));
-    }
-    if same(keyword, b"hvstep") {
-        return hvstep(n);
-    }
-    if same(keyword, b"load") {
-        return right_if(n == 0, Line::LoadZero);
-    }
-    if same(keyword, b"loadat") {
-        return right_if(n <= reach, Line::LoadAt(n));
-    }
-    Line::Wrong
+    let loadat = right_if(n <= reach, Line::LoadAt(n));
+    let l = row(keyword, b"loadat", loadat, Line::Wrong);
+    let l = row(keyword, b"load", right_if(n == 0, Line::LoadZero), l);
+    let l = row(keyword, b"hvstep", set_line(Setting::Hvstep, n), l);
+    let l = row(keyword, b"hv", set_line(Setting::Hv, n), l);
+    let l = row(keyword, b"junk", set_line(Setting::Junk, n), l);
+    let l = row(keyword, b"toferror", set_line(Setting::Toferror, n), l);
+    let l = row(keyword, b"eonly", set_line(Setting::Eonly, n), l);
+    row(keyword, b"limhi", set_line(Setting::Limhi, n), l)
 }
 
 // A keyword with two arguments.
 fn with_two(keyword: &[u8], a: u32, y: u32, reach: u32) -> Line
     ensures { λ r. ⌜ r ≡ withTwo (now (keyword .entry)) a y reach ⌝ }
 {
-    if same(keyword, b"load") {
-        return load_from(a, y, reach);
-    }
-    Line::Wrong
+    row(keyword, b"load", load_line(a, y, reach), Line::Wrong)
 }
 
 pub fn one_argument(keyword: &[u8], n: Argument, reach: u32) -> Line

@@ -3,11 +3,12 @@ ghost use mathlib.Core.Path.{_≡_};
 ghost use mathlib.Core.Bool.{true};
 ghost use Prim.Native.Nat.{_≤_};
 ghost use Rattle.load.specs.Load.{loadLawful};
-ghost use Rattle.load.specs.Staging.{placeable};
+ghost use Rattle.load.specs.Staging.{formed, placeable};
 use crate::output;
 use command::echo;
 use command::line::MAX_LINE;
 use load::staging;
+use load::staging::Addresses;
 use wire::read::u16_at;
 use wire::read::u24_at;
 use wire::read::u32_at;
@@ -65,7 +66,7 @@ fn prompt_case() {
     show(&buffer);
 }
 
-// 5: the address and the bytes placed, four bytes each.
+// 5: the address and the number of bytes, four bytes each.
 fn right_case(body: &[u8]) {
     if body.len() < 8 {
         return;
@@ -109,45 +110,46 @@ fn next_value(v: u32, step: u32) -> u32
     (3 * v + step % 256) % 251
 }
 
-// 7: next address and reach, three bytes each, and the package. Prints its number, the bytes placed, the two sums, the
-// addresses afterwards and a digest of staging.
+// 7: next address and reach, three bytes each, and the package. Prints its number, how many bytes it brings, the two sums,
+// the addresses afterwards and a digest of staging.
 fn package_case(body: &[u8]) {
     if body.len() < 6 {
         return;
     }
-    let next = u24_at(body, 0);
-    let reach = u24_at(body, 3);
+    let a = Addresses {
+        next: u24_at(body, 0),
+        reach: u24_at(body, 3),
+    };
     let p = &body[6..];
-    let n = staging::judge(p, next);
-    output::text(b"package ");
-    output::number(n as u32);
-    if n == staging::NOT_FORMED {
+    let n = staging::judge(p, a.next);
+    output::labelled(b"package ", n as u32);
+    if n == causes::PACKAGE_FORM {
         return;
     }
-    if n == staging::PAST_END {
+    if n == causes::PAST_STAGING {
         return;
     }
-    place(p, next, reach);
+    place(p, a);
 }
 
-fn place(p: &[u8], next: u32, reach: u32)
-    requires { ⌜ placeable (now p) next ≡ true ⌝ }
+fn place(p: &[u8], a: Addresses)
+    requires { ⌜ placeable (now p) (a .next) ≡ true ⌝ }
 {
     let mut area = [0u8; TABLE_BYTES];
     fill(&mut area, 5);
-    let after = staging::place(&mut area, next, reach, p);
-    output::text(b" placed ");
-    output::number(staging::placed(p));
-    output::text(b" sums ");
-    output::number(staging::received_sum(p) as u32);
-    output::text(b" ");
-    output::number(staging::computed_sum(p) as u32);
-    output::text(b" next ");
-    output::number(after.next);
-    output::text(b" reach ");
-    output::number(after.reach);
-    output::text(b" staging ");
-    output::number(output::digest(&area));
+    let after = staging::place(&mut area, a, p);
+    show_package(p);
+    output::labelled(b" next ", after.next);
+    output::labelled(b" reach ", after.reach);
+    output::labelled(b" staging ", output::digest(&area));
+}
+
+fn show_package(p: &[u8])
+    requires { ⌜ formed (now p) ≡ true ⌝ }
+{
+    output::labelled(b" placed ", staging::payload_bytes(p));
+    output::labelled(b" sums ", staging::received_sum(p) as u32);
+    output::labelled(b" ", staging::computed_sum(p) as u32);
 }
 
 // 8: the address in three bytes, how to pack, and the reach in three bytes. Prints whether the load is lawful, and
@@ -160,7 +162,6 @@ fn load_case(body: &[u8]) {
     let y = body[3];
     let reach = u24_at(body, 4);
     if load::words::load_lawful(a, y, reach) {
-        output::text(b"load lawful ");
         run(a, y, reach);
     } else {
         output::text(b"load unlawful");
@@ -174,10 +175,9 @@ fn run(a: u32, y: u8, reach: u32)
     let mut lookup = [0u8; TABLE_BYTES];
     fill(&mut area, 5);
     fill(&mut lookup, 11);
-    output::number(output::digest(&lookup));
+    output::labelled(b"load lawful ", output::digest(&lookup));
     load::run::run_load(&mut lookup, &area, a, y, reach);
-    output::text(b" ");
-    output::number(output::digest(&lookup));
+    output::labelled(b" ", output::digest(&lookup));
     output::text(b" first ");
     output::word(tables::word(&lookup, a as usize));
 }

@@ -2,6 +2,7 @@
 ghost use Prim.Native.Nat.{_<_};
 use command::command::Command;
 use command::command::Line;
+use command::command::Setting;
 use io::print_decimal;
 use io::print_hex;
 
@@ -31,34 +32,32 @@ pub fn bytes(part: &[u8]) {
     }
 }
 
-fn flag(name: &[u8], b: bool) {
-    text(name);
-    if b {
-        text(b" 1");
-    } else {
-        text(b" 0");
+// A text, and a number behind it.
+pub fn labelled(label: &[u8], n: u32) {
+    text(label);
+    number(n);
+}
+
+fn setting(k: Setting) {
+    match k {
+        Setting::Limhi => text(b"limhi "),
+        Setting::Eonly => text(b"eonly "),
+        Setting::Toferror => text(b"toferror "),
+        Setting::Junk => text(b"junk "),
+        Setting::Hv => text(b"hv "),
+        Setting::Hvstep => text(b"hvstep "),
     }
 }
 
 fn waiting(c: Command) {
     match c {
-        Command::Limhi(n) => {
-            text(b"limhi ");
-            number(n as u32);
-        }
-        Command::Eonly(b) => flag(b"eonly", b),
-        Command::Toferror(b) => flag(b"toferror", b),
-        Command::Junk(b) => flag(b"junk", b),
-        Command::Hv(b) => flag(b"hv", b),
-        Command::Hvstep(n) => {
-            text(b"hvstep ");
+        Command::Set(k, n) => {
+            setting(k);
             number(n as u32);
         }
         Command::Load(a, y) => {
-            text(b"load ");
-            number(a);
-            text(b" ");
-            number(y as u32);
+            labelled(b"load ", a);
+            labelled(b" ", y as u32);
         }
     }
 }
@@ -69,10 +68,7 @@ pub fn line(l: Line) {
         Line::Wrong => text(b"wrong"),
         Line::Waits(c) => waiting(c),
         Line::LoadZero => text(b"load 0"),
-        Line::LoadAt(a) => {
-            text(b"loadat ");
-            number(a);
-        }
+        Line::LoadAt(a) => labelled(b"loadat ", a),
     }
 }
 

@@ -1,4 +1,4 @@
--- Laws of what the reader answers. Assumes nothing.
+-- The reader answers an accepted packet by its kind, and a refused one with its number and no records. Assumes nothing.
 use mathlib.Core.Path.{_≡_}
 use mathlib.Core.Bool.{true, cond}
 use mathlib.Core.List.{List, []}
@@ -6,7 +6,7 @@ use Prim.Native.Nat.{ℕ}
 use lib.ListN.{length, take, drop}
 use borrow.Author.Tests.{eqb-true, eq-eqb, ne-eqb}
 use Rattle.wire.proofs.Lists.{and-left}
-use Rattle.packet.specs.Packet.{packetBytes}
+use Rattle.packet.specs.Layout.{bodyAt, bodyBytes, packetBytes}
 use Rattle.packet.specs.declared.kind.Kind.{Kind}
 use Rattle.packet.specs.Read.{applicationOf, kindOf, readNumber}
 use Rattle.packet.proofs.Reading.{accepted-length}
@@ -26,7 +26,8 @@ unfolding readOf
 read-refused xs ne = rw (ne-eqb _ _ ne)
 
 -- the records of an accepted sample packet; none of another kind, and none of a refused packet
-pub the-records : (xs : List ℕ) (k : Kind) → readNumber xs ≡ 0 → kindOf (applicationOf xs) ≡ k → recordsOf xs ≡ cond (isSample k) (take 256 (drop 11 xs)) []
+pub the-records : (xs : List ℕ) (k : Kind) → readNumber xs ≡ 0 → kindOf (applicationOf xs) ≡ k
+    → recordsOf xs ≡ cond (isSample k) (take bodyBytes (drop bodyAt xs)) []
 unfolding recordsOf samplesIn
 the-records xs k e q = rw (eq-eqb _ _ e, q)
 

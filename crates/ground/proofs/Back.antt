@@ -1,99 +1,89 @@
--- Reading gives back what was written. Assumes nothing.
+-- Reading a written packet gives back its stamp and what its kind was written from. Assumes nothing.
 use mathlib.Core.Path.{_≡_, ap, _∙_}
-use mathlib.Core.List.{List}
-use Prim.Native.Nat.{ℕ, _+_, _%_, _<_}
+use mathlib.Core.List.{List, _++_}
+use Prim.Native.Nat.{ℕ, _+_, _<_}
 use native.Mathlib.Omega.{arith}
 use lib.ListN.{length}
+use Rattle.causes.specs.Causes.{carriedOut}
 use Rattle.wire.specs.Bytes.{words, zeros}
 use Rattle.settings.specs.declared.Settings.{Settings}
 use Rattle.packet.specs.declared.kind.Kind.{Kind}
 use Rattle.packet.specs.declared.kind.Kind.the-variants.{Rate, Sample, Beacon}
-use Rattle.packet.specs.Packet.{rateApplication, sampleApplication, beaconApplication, packetOf, rateBody, beaconBody, ratePacket, samplePacket, beaconPacket}
-use Rattle.packet.specs.Read.{applicationOf, kindOf}
+use Rattle.packet.specs.declared.stamp.Stamp.{Stamp}
+use Rattle.packet.specs.Layout.{secondaryFlag, sequenceCounts, innerBytes, bodyBytes, rateCount, beaconCount}
+use Rattle.packet.specs.Packet.{rateApplication, sampleApplication, beaconApplication, packetOf, rateBody, beaconBody}
+use Rattle.packet.specs.Packet.{trailer, ratePacket, samplePacket, beaconPacket}
+use Rattle.packet.proofs.Written.{length-inner}
 use Rattle.packet.proofs.Back as fields
 use Rattle.packet.proofs.Accepted as kinds
 use Rattle.ground.specs.Ground.{noSettings, accepted, contents}
-use Rattle.ground.specs.Theorems.{RateBack, SampleBack, BeaconBack}
+use Rattle.ground.specs.Theorems.{stampRead, RateBack, SampleBack, BeaconBack}
 use Rattle.ground.proofs.Answers.{read-accepted, the-records}
 
--- a packet of any kind, by what its kind holds
-module _ (a f t m : ℕ) (body : List ℕ) (lb : length body ≡ 256) (ha : a < 2048) where
-  abbrev P : List ℕ
-  P = packetOf a f t m body
-
-  kind-back : (k : Kind) → kindOf a ≡ k → kindOf (applicationOf P) ≡ k
-  kind-back k e = ap kindOf (fields.application-back a f t m body lb ha) ∙ e
-
-  accepted-back : (k : Kind) (rates : List ℕ) (s : Settings) (sum : ℕ) (beacons : List ℕ) (p : ℕ)
-      → accepted k P rates s sum beacons p ≡ record {
-        number = 0;
-        kind = k;
-        application = a;
-        sequence = f % 16384;
-        time = t;
-        frame = f;
-        rates = rates;
-        settings = s;
-        sum = sum;
-        beacons = beacons;
-        p = p;
-      }
-  unfolding accepted
-  accepted-back k rates s sum beacons p =
-      λ i. record {
-        number = 0;
-        kind = k;
-        application = fields.application-back a f t m body lb ha i;
-        sequence = fields.sequence-back a f t m body lb ha i;
-        time = fields.time-back a f t m body lb i;
-        frame = fields.frame-back a f t m body lb i;
-        rates = rates;
-        settings = s;
-        sum = sum;
-        beacons = beacons;
-        p = p;
-      }
+-- of a packet of any kind, its stamp
+accepted-back : (a : ℕ) (st : Stamp) (body : List ℕ) → length body ≡ bodyBytes → a < secondaryFlag → st .sequence < sequenceCounts
+    → (k : Kind) (rates : List ℕ) (s : Settings) (sum : ℕ) (beacons : List ℕ) (p : ℕ)
+    → accepted k (packetOf a st body) rates s sum beacons p ≡ stampRead k a st rates s sum beacons p
+unfolding accepted
+accepted-back a st body lb ha hq k rates s sum beacons p =
+    let l : length (body ++ trailer st) ≡ innerBytes = length-inner st body lb in
+    λ i. record {
+      number = carriedOut;
+      kind = k;
+      application = kinds.application-back a st body lb ha i;
+      sequence = fields.sequence-back a (st .sequence) (st .time) (body ++ trailer st) l hq i;
+      time = fields.time-back a (st .sequence) (st .time) (body ++ trailer st) l i;
+      frame = fields.frame-back a st body lb i;
+      rates = rates;
+      settings = s;
+      sum = sum;
+      beacons = beacons;
+      p = p;
+    }
 
 pub rate-back : RateBack
 unfolding contents ratePacket
-rate-back f t totals boxes s sum st v =
+rate-back st totals boxes s sum h v =
     let B : List ℕ = rateBody totals boxes s sum in
-    let l = kinds.rate-length f t totals boxes s sum v in
-    let P : List ℕ = packetOf rateApplication f t 0 B in
-    let z = kinds.rate-number f t totals boxes s sum v in
-    let k = kind-back rateApplication f t 0 B l (omega arith) Rate kinds.rate-kind in (
+    let P : List ℕ = packetOf rateApplication st B in
+    let l = kinds.rate-length st h totals boxes s sum v in
+    let z = kinds.rate-number st h totals boxes s sum v in
+    let rates = kinds.rate-codes st h totals boxes s sum v .1 in
+    let settings = kinds.settings-back st h totals boxes s sum v in
+    let table-sum = kinds.table-sum-back st h totals boxes s sum v in
+    let k = kinds.kind-back rateApplication st B l (omega arith) Rate kinds.rate-kind in (
       read-accepted P Rate z k
-          ∙ (λ i. accepted Rate P (kinds.rate-rates f t totals boxes s sum v i) (kinds.settings-back f t totals boxes s sum v i) (kinds.table-sum-back f t totals boxes s sum v i) (zeros 12) 0)
-          ∙ accepted-back rateApplication f t 0 B l (omega arith) Rate _ s sum (zeros 12) 0,
+          ∙ (λ i. accepted Rate P (rates i) (settings i) (table-sum i) (zeros beaconCount) 0)
+          ∙ accepted-back rateApplication st B l (omega arith) (h .sequence-fits) Rate _ s sum (zeros beaconCount) 0,
       the-records P Rate z k,
     )
 
 pub sample-back : SampleBack
 unfolding contents samplePacket
-sample-back f t p records st v =
-    let a : ℕ = sampleApplication + p in
+sample-back st records h v =
+    let a : ℕ = sampleApplication + st .mark in
     let B : List ℕ = words records in
-    let l = kinds.sample-length f t p records v in
-    let h = kinds.application-fits f t p records v in
-    let P : List ℕ = packetOf a f t p B in
-    let z = kinds.sample-number f t p records v in
-    let k = kind-back a f t p B l h Sample (kinds.sample-kind p (v .p-fits)) in (
+    let P : List ℕ = packetOf a st B in
+    let l = kinds.sample-length st h records v in
+    let ha = kinds.application-fits st h records v in
+    let z = kinds.sample-number st h records v in
+    let k = kinds.kind-back a st B l ha Sample (kinds.sample-kind (st .mark) (h .mark-fits)) in (
       read-accepted P Sample z k
-          ∙ ap (accepted Sample P (zeros 124) noSettings 0 (zeros 12)) (fields.mark-back a f t p B l)
-          ∙ accepted-back a f t p B l h Sample (zeros 124) noSettings 0 (zeros 12) p,
-      the-records P Sample z k ∙ fields.body-part a f t p B l,
+          ∙ ap (accepted Sample P (zeros rateCount) noSettings 0 (zeros beaconCount)) (fields.mark-back a st B l)
+          ∙ accepted-back a st B l ha (h .sequence-fits) Sample (zeros rateCount) noSettings 0 (zeros beaconCount) (st .mark),
+      the-records P Sample z k ∙ fields.body-part a st B l,
     )
 
 pub beacon-back : BeaconBack
 unfolding contents beaconPacket
-beacon-back f t beacons st v =
+beacon-back st beacons h v =
     let B : List ℕ = beaconBody beacons in
-    let l = kinds.beacon-length f t beacons v in
-    let P : List ℕ = packetOf beaconApplication f t 0 B in
-    let z = kinds.beacon-number f t beacons v in
-    let k = kind-back beaconApplication f t 0 B l (omega arith) Beacon kinds.beacon-kind in (
+    let P : List ℕ = packetOf beaconApplication st B in
+    let l = kinds.beacon-length st h beacons v in
+    let z = kinds.beacon-number st h beacons v in
+    let k = kinds.kind-back beaconApplication st B l (omega arith) Beacon kinds.beacon-kind in (
       read-accepted P Beacon z k
-          ∙ ap (λ (r : List ℕ). accepted Beacon P (zeros 124) noSettings 0 r 0) (kinds.beacon-rates f t beacons v)
-          ∙ accepted-back beaconApplication f t 0 B l (omega arith) Beacon (zeros 124) noSettings 0 _ 0,
+          ∙ ap (λ (r : List ℕ). accepted Beacon P (zeros rateCount) noSettings 0 r 0) (kinds.beacon-codes st h beacons v .1)
+          ∙ accepted-back beaconApplication st B l (omega arith) (h .sequence-fits) Beacon (zeros rateCount) noSettings 0 _ 0,
       the-records P Beacon z k,
     )

@@ -1,4 +1,4 @@
--- A packet with one byte off is refused. Assumes nothing.
+-- A packet with one byte off is refused for its header or its sum, and hands back no records. Assumes nothing.
 use mathlib.Core.Path.{_≡_, sym, ap, _∙_}
 use mathlib.Core.Logic.{⊎-elim, ⊎-map}
 use mathlib.Core.Bool.{false}
@@ -6,14 +6,19 @@ use mathlib.Core.List.{List, _++_}
 use Prim.Native.Nat.{ℕ, _+_, _<_}
 use native.Mathlib.Omega.{arith}
 use lib.ListN.{length}
+use Rattle.causes.specs.Causes.{noHeader, packetSum}
 use Rattle.wire.specs.Bytes.{words, zeros}
-use Rattle.packet.specs.Packet.{rateApplication, sampleApplication, beaconApplication, packetOf, codes, settingsBytes, rateBody, beaconBody, ratePacket, samplePacket, beaconPacket}
+use Rattle.wire.specs.Lists.{EachBelow}
+use Rattle.wire.proofs.Lists.{each-append, each-zeros}
+use Rattle.packet.specs.declared.stamp.Stamp.{Stamp}
+use Rattle.packet.specs.Layout.{packetBytes, secondaryFlag, bodyBytes, beaconUnused}
+use Rattle.packet.specs.Packet.{rateApplication, sampleApplication, beaconApplication, lastSample, trailer, packetOf}
+use Rattle.packet.specs.Packet.{codes, settingsBytes, rateBody, beaconBody, ratePacket, samplePacket, beaconPacket}
 use Rattle.packet.specs.Read.{sumGood, readNumber}
-use Rattle.packet.specs.Ranges.{Stamp}
-use Rattle.packet.proofs.Written.{length-packet}
+use Rattle.packet.specs.Ranges.{StampFits}
+use Rattle.packet.proofs.Written.{length-inner, length-packet, length-rate-body, length-sample-body, length-beacon-body}
 use Rattle.packet.proofs.Back.{sum-back}
-use Rattle.packet.proofs.Accepted as kinds
-use Rattle.packet.proofs.Damage.{sum-wrong, wrong-number, Bytes, join, bytes-zeros, bytes-codes, bytes-words, bytes-settings, bytes-packet}
+use Rattle.packet.proofs.Damage.{sum-wrong, wrong-number, bytes-codes, bytes-words, bytes-settings, bytes-packet}
 use Rattle.ground.specs.Ground.{refused, readOf}
 use Rattle.ground.specs.Theorems.{OneByteOff, Refused, DamageRefused, RateDamageRefused, SampleDamageRefused, BeaconDamageRefused}
 use Rattle.ground.proofs.Answers.{read-refused, no-records}
@@ -25,36 +30,41 @@ refused-as ys n ne e = read-refused ys (λ z. ne (sym e ∙ z)) ∙ ap refused e
 wrong-refused : (ys : List ℕ) → sumGood ys ≡ false → Refused ys
 wrong-refused ys e =
     let w = wrong-number ys e in (
-      ⊎-map (refused-as ys 11 (λ q. omega arith)) (refused-as ys 12 (λ q. omega arith)) w,
-      no-records ys (λ z. ⊎-elim (λ (q : readNumber ys ≡ 11). omega arith) (λ (q : readNumber ys ≡ 12). omega arith) w),
+      ⊎-map (refused-as ys noHeader (λ q. omega arith)) (refused-as ys packetSum (λ q. omega arith)) w,
+      no-records ys (λ z. ⊎-elim (λ (q : readNumber ys ≡ noHeader). omega arith) (λ (q : readNumber ys ≡ packetSum). omega arith) w),
     )
 
 pub damage-refused : DamageRefused
 damage-refused xs ys l b e d =
-    wrong-refused ys (ap sumGood (d .rest) ∙ sum-wrong xs l b e (d .place) (d .byte) (d .byte-fits) (d .differs) (omega (arith, d .inside)))
+    let inside : d .place < packetBytes = omega (arith, d .inside) in
+    wrong-refused ys (ap sumGood (d .rest) ∙ sum-wrong xs l b e (d .place) (d .byte) (d .byte-fits) (d .differs) inside)
 
 -- of a packet of any kind, by its body
-packet-damage : (a f t m : ℕ) (body ys : List ℕ) → a < 2048 → m < 256 → length body ≡ 256 → Stamp f t → Bytes body
-    → OneByteOff (packetOf a f t m body) ys → Refused ys
-packet-damage a f t m body ys ha hm l st b d =
-    damage-refused (packetOf a f t m body) ys (length-packet a f t m body l) (bytes-packet a f t m body ha st hm b) (sum-back a f t m body l) d
+packet-damage : (a marks : ℕ) (st : Stamp) (body ys : List ℕ) → a < secondaryFlag → marks < 256 → length body ≡ bodyBytes
+    → StampFits marks st → EachBelow 256 body → OneByteOff (packetOf a st body) ys → Refused ys
+packet-damage a marks st body ys ha hm l h b d =
+    damage-refused (packetOf a st body) ys (length-packet a st body l) (bytes-packet a marks st body ha hm h b)
+    (sum-back a (st .sequence) (st .time) (body ++ trailer st) (length-inner st body l)) d
 
 pub rate-damage-refused : RateDamageRefused
 unfolding ratePacket
-rate-damage-refused f t totals boxes s sum ys st v d =
+rate-damage-refused st totals boxes s sum ys h v d =
     let S = bytes-settings s sum (omega (arith, v .limhi-fits)) (v .hvstep-fits) (v .sum-fits) in
-    let C = join (codes totals) (codes boxes) (bytes-codes totals (v .totals-fit)) (bytes-codes boxes (v .boxes-fit)) in
-    packet-damage rateApplication f t 0 (rateBody totals boxes s sum) ys (omega arith) (omega arith) (kinds.rate-length f t totals boxes s sum v) st
-    (join (codes totals ++ codes boxes) (settingsBytes s sum) C S) d
+    let C = each-append 256 (codes totals) (codes boxes) (bytes-codes totals (v .totals-fit)) (bytes-codes boxes (v .boxes-fit)) in
+    packet-damage rateApplication 0 st (rateBody totals boxes s sum) ys (omega arith) (omega arith)
+    (length-rate-body totals boxes s sum (v .totals-are) (v .boxes-are)) h
+    (each-append 256 (codes totals ++ codes boxes) (settingsBytes s sum) C S) d
 
 pub sample-damage-refused : SampleDamageRefused
 unfolding samplePacket
-sample-damage-refused f t p records ys st v d =
-    packet-damage (sampleApplication + p) f t p (words records) ys (kinds.application-fits f t p records v) (omega (arith, v .p-fits))
-    (kinds.sample-length f t p records v) st (bytes-words records (v .records-fit)) d
+sample-damage-refused st records ys h v d =
+    packet-damage (sampleApplication + st .mark) lastSample st (words records) ys (omega (arith, h .mark-fits)) (omega arith)
+    (length-sample-body records (v .records-are)) h (bytes-words records (v .records-fit)) d
 
 pub beacon-damage-refused : BeaconDamageRefused
 unfolding beaconPacket
-beacon-damage-refused f t beacons ys st v d =
-    packet-damage beaconApplication f t 0 (beaconBody beacons) ys (omega arith) (omega arith) (kinds.beacon-length f t beacons v) st
-    (join (codes beacons) (zeros 232) (bytes-codes beacons (v .beacons-fit)) (bytes-zeros 232)) d
+beacon-damage-refused st beacons ys h v d =
+    let Z = each-zeros 256 beaconUnused (omega arith) in
+    let B = each-append 256 (codes beacons) (zeros beaconUnused) (bytes-codes beacons (v .beacons-fit)) Z in
+    packet-damage beaconApplication 0 st (beaconBody beacons) ys (omega arith) (omega arith)
+    (length-beacon-body beacons (v .beacons-are)) h B d

@@ -4,10 +4,12 @@ use mathlib.Core.Bool.{Bool, true, false, cond, _&&_}
 use mathlib.Core.List.{List, []}
 use lib.Dec.{eqb}
 use lib.ListN.{take, drop}
+use Rattle.causes.specs.Causes.{carriedOut}
 use Rattle.wire.specs.Bytes.{zeros}
 use Rattle.settings.specs.declared.Settings.{Settings}
 use Rattle.packet.specs.declared.kind.Kind.{Kind}
 use Rattle.packet.specs.declared.kind.Kind.the-variants.{Rate, Sample, Beacon, None}
+use Rattle.packet.specs.Layout.{bodyAt, bodyBytes, rateCount, beaconCount}
 use Rattle.packet.specs.Read.{applicationOf, sequenceOf, timeOf, frameOf, markOf, kindOf, ratesOf, settingsOf, sumOf, readNumber}
 use Rattle.ground.specs.declared.Packet.{Packet}
 
@@ -25,10 +27,10 @@ refused n =
       sequence = 0;
       time = 0;
       frame = 0;
-      rates = zeros 124;
+      rates = zeros rateCount;
       settings = noSettings;
       sum = 0;
-      beacons = zeros 12;
+      beacons = zeros beaconCount;
       p = 0;
     }
 
@@ -36,7 +38,7 @@ refused n =
 unfoldable pub accepted : Kind → List ℕ → List ℕ → Settings → ℕ → List ℕ → ℕ → Packet
 accepted kind xs rates settings sum beacons p =
     record {
-      number = 0;
+      number = carriedOut;
       kind = kind;
       application = applicationOf xs;
       sequence = sequenceOf xs;
@@ -51,14 +53,14 @@ accepted kind xs rates settings sum beacons p =
 
 -- ".. with a rate packet's rates, settings and table sum, a beacon's rates, or p"; what a kind has not is zero
 unfoldable pub contents : Kind → List ℕ → Packet
-contents Rate xs = accepted Rate xs (ratesOf 124 xs) (settingsOf xs) (sumOf xs) (zeros 12) 0
-contents Sample xs = accepted Sample xs (zeros 124) noSettings 0 (zeros 12) (markOf xs)
-contents Beacon xs = accepted Beacon xs (zeros 124) noSettings 0 (ratesOf 12 xs) 0
-contents None xs = refused 0
+contents Rate xs = accepted Rate xs (ratesOf rateCount xs) (settingsOf xs) (sumOf xs) (zeros beaconCount) 0
+contents Sample xs = accepted Sample xs (zeros rateCount) noSettings 0 (zeros beaconCount) (markOf xs)
+contents Beacon xs = accepted Beacon xs (zeros rateCount) noSettings 0 (ratesOf beaconCount xs) 0
+contents None xs = refused carriedOut
 
 -- what `read` answers
 unfoldable pub readOf : List ℕ → Packet
-readOf xs = cond (eqb (readNumber xs) 0) (contents (kindOf (applicationOf xs)) xs) (refused (readNumber xs))
+readOf xs = cond (eqb (readNumber xs) carriedOut) (contents (kindOf (applicationOf xs)) xs) (refused (readNumber xs))
 
 -- whether the kind is that of samples
 abbrev pub isSample : Kind → Bool
@@ -69,9 +71,9 @@ isSample None = false
 
 -- an accepted sample packet
 unfoldable pub samplesIn : List ℕ → Bool
-samplesIn xs = eqb (readNumber xs) 0 && isSample (kindOf (applicationOf xs))
+samplesIn xs = eqb (readNumber xs) carriedOut && isSample (kindOf (applicationOf xs))
 
 -- what `records` answers: "the sample records as a part of the packet itself, bytes 11-266, and of any other or refused packet an
 -- empty part"
 unfoldable pub recordsOf : List ℕ → List ℕ
-recordsOf xs = cond (samplesIn xs) (take 256 (drop 11 xs)) []
+recordsOf xs = cond (samplesIn xs) (take bodyBytes (drop bodyAt xs)) []

@@ -1,19 +1,23 @@
 -- What is proved of the packets and their reader together. `readOf` and `recordsOf` are what the reader's two calls answer,
 -- `ratePacket`, `samplePacket` and `beaconPacket` what the three writers write, by their contracts. Assumes nothing.
-use Prim.Native.Nat.{ℕ, _+_, _%_, _<_}
+use Prim.Native.Nat.{ℕ, _+_, _<_}
 use mathlib.Core.Path.{_≡_}
 use mathlib.Core.Logic.{_⊎_}
 use mathlib.Core.Bool.{true}
 use mathlib.Core.List.{List, [], _++_, map}
 use lib.ListN.{length, getD, set}
+use Rattle.causes.specs.Causes.{carriedOut, noHeader, packetSum}
 use Rattle.wire.specs.Bytes.{words, zeros}
 use Rattle.wire.specs.Lists.{EachBelow}
 use Rattle.settings.specs.declared.Settings.{Settings}
+use Rattle.packet.specs.declared.kind.Kind.{Kind}
 use Rattle.packet.specs.declared.kind.Kind.the-variants.{Rate, Sample, Beacon}
+use Rattle.packet.specs.declared.stamp.Stamp.{Stamp}
 use Rattle.packet.specs.Rate.{rateCode, leastCount}
-use Rattle.packet.specs.Packet.{packetBytes, rateApplication, sampleApplication, beaconApplication, ratePacket, samplePacket, beaconPacket}
+use Rattle.packet.specs.Layout.{packetBytes, rateCount, beaconCount}
+use Rattle.packet.specs.Packet.{rateApplication, sampleApplication, beaconApplication, lastSample, ratePacket, samplePacket, beaconPacket}
 use Rattle.packet.specs.Read.{sumGood}
-use Rattle.packet.specs.Ranges.{Stamp, RateValues, SampleValues, BeaconValues}
+use Rattle.packet.specs.Ranges.{StampFits, RateValues, SampleValues, BeaconValues}
 use Rattle.ground.specs.declared.Packet.{Packet}
 use Rattle.ground.specs.Ground.{noSettings, refused, readOf, recordsOf}
 
@@ -23,74 +27,55 @@ use Rattle.ground.specs.Ground.{noSettings, refused, readOf, recordsOf}
 abbrev pub leastCounts : List ℕ → List ℕ
 leastCounts counts = map (λ n. leastCount (rateCode n)) counts
 
--- a rate packet gives back frame, time, settings and table sum, the frame modulo 16,384 as sequence count, the counts as least counts
-abbrev pub rateRead : ℕ → ℕ → List ℕ → List ℕ → Settings → ℕ → Packet
-rateRead frame time totals boxes s sum =
+-- every packet gives back its kind and application number and what it was stamped with, beside what its kind has
+abbrev pub stampRead : Kind → (application : ℕ) → Stamp → (rates : List ℕ) → Settings → (sum : ℕ) → (beacons : List ℕ) → (p : ℕ) → Packet
+stampRead kind application stamp rates s sum beacons p =
     record {
-      number = 0;
-      kind = Rate;
-      application = rateApplication;
-      sequence = frame % 16384;
-      time = time;
-      frame = frame;
-      rates = leastCounts (totals ++ boxes);
+      number = carriedOut;
+      kind = kind;
+      application = application;
+      sequence = stamp .sequence;
+      time = stamp .time;
+      frame = stamp .frame;
+      rates = rates;
       settings = s;
       sum = sum;
-      beacons = zeros 12;
-      p = 0;
-    }
-
-abbrev pub RateBack : Type 0
-RateBack =
-    (frame time : ℕ) (totals boxes : List ℕ) (s : Settings) (sum : ℕ) → Stamp frame time → RateValues totals boxes s sum
-    → (readOf (ratePacket frame time totals boxes s sum) ≡ rateRead frame time totals boxes s sum)
-    × (recordsOf (ratePacket frame time totals boxes s sum) ≡ [])
-
--- a sample packet gives back p, and exactly the record bytes
-abbrev pub sampleRead : ℕ → ℕ → ℕ → Packet
-sampleRead frame time p =
-    record {
-      number = 0;
-      kind = Sample;
-      application = sampleApplication + p;
-      sequence = frame % 16384;
-      time = time;
-      frame = frame;
-      rates = zeros 124;
-      settings = noSettings;
-      sum = 0;
-      beacons = zeros 12;
+      beacons = beacons;
       p = p;
     }
 
+-- a rate packet gives back settings and table sum, and the counts as least counts
+abbrev pub rateRead : Stamp → (totals boxes : List ℕ) → Settings → (sum : ℕ) → Packet
+rateRead stamp totals boxes s sum =
+    stampRead Rate rateApplication stamp (leastCounts (totals ++ boxes)) s sum (zeros beaconCount) 0
+
+abbrev pub RateBack : Type 0
+RateBack =
+    (stamp : Stamp) (totals boxes : List ℕ) (s : Settings) (sum : ℕ) → StampFits 0 stamp → RateValues totals boxes s sum
+    → (readOf (ratePacket stamp totals boxes s sum) ≡ rateRead stamp totals boxes s sum)
+    × (recordsOf (ratePacket stamp totals boxes s sum) ≡ [])
+
+-- a sample packet gives back p, and exactly the record bytes
+abbrev pub sampleRead : Stamp → Packet
+sampleRead stamp =
+    stampRead Sample (sampleApplication + stamp .mark) stamp (zeros rateCount) noSettings 0 (zeros beaconCount) (stamp .mark)
+
 abbrev pub SampleBack : Type 0
 SampleBack =
-    (frame time p : ℕ) (records : List ℕ) → Stamp frame time → SampleValues p records
-    → (readOf (samplePacket frame time p records) ≡ sampleRead frame time p)
-    × (recordsOf (samplePacket frame time p records) ≡ words records)
+    (stamp : Stamp) (records : List ℕ) → StampFits lastSample stamp → SampleValues records
+    → (readOf (samplePacket stamp records) ≡ sampleRead stamp)
+    × (recordsOf (samplePacket stamp records) ≡ words records)
 
 -- a beacon packet gives back the beacons as least counts
-abbrev pub beaconRead : ℕ → ℕ → List ℕ → Packet
-beaconRead frame time beacons =
-    record {
-      number = 0;
-      kind = Beacon;
-      application = beaconApplication;
-      sequence = frame % 16384;
-      time = time;
-      frame = frame;
-      rates = zeros 124;
-      settings = noSettings;
-      sum = 0;
-      beacons = leastCounts beacons;
-      p = 0;
-    }
+abbrev pub beaconRead : Stamp → (beacons : List ℕ) → Packet
+beaconRead stamp beacons =
+    stampRead Beacon beaconApplication stamp (zeros rateCount) noSettings 0 (leastCounts beacons) 0
 
 abbrev pub BeaconBack : Type 0
 BeaconBack =
-    (frame time : ℕ) (beacons : List ℕ) → Stamp frame time → BeaconValues beacons
-    → (readOf (beaconPacket frame time beacons) ≡ beaconRead frame time beacons)
-    × (recordsOf (beaconPacket frame time beacons) ≡ [])
+    (stamp : Stamp) (beacons : List ℕ) → StampFits 0 stamp → BeaconValues beacons
+    → (readOf (beaconPacket stamp beacons) ≡ beaconRead stamp beacons)
+    × (recordsOf (beaconPacket stamp beacons) ≡ [])
 
 -- ---- one damaged byte
 
@@ -105,7 +90,7 @@ pub record OneByteOff (xs ys : List ℕ) : Type 0 where
 
 -- the reader refuses ys, with 11 or with 12, and hands back no records
 abbrev pub Refused : List ℕ → Type 0
-Refused ys = ((readOf ys ≡ refused 11) ⊎ (readOf ys ≡ refused 12)) × (recordsOf ys ≡ [])
+Refused ys = ((readOf ys ≡ refused noHeader) ⊎ (readOf ys ≡ refused packetSum)) × (recordsOf ys ≡ [])
 
 -- of any 272 bytes with a right sum, whatever they are, one byte off is refused
 abbrev pub DamageRefused : Type 0
@@ -115,15 +100,15 @@ DamageRefused =
 -- so of every packet that is written
 abbrev pub RateDamageRefused : Type 0
 RateDamageRefused =
-    (frame time : ℕ) (totals boxes : List ℕ) (s : Settings) (sum : ℕ) (ys : List ℕ) → Stamp frame time → RateValues totals boxes s sum
-    → OneByteOff (ratePacket frame time totals boxes s sum) ys → Refused ys
+    (stamp : Stamp) (totals boxes : List ℕ) (s : Settings) (sum : ℕ) (ys : List ℕ) → StampFits 0 stamp → RateValues totals boxes s sum
+    → OneByteOff (ratePacket stamp totals boxes s sum) ys → Refused ys
 
 abbrev pub SampleDamageRefused : Type 0
 SampleDamageRefused =
-    (frame time p : ℕ) (records ys : List ℕ) → Stamp frame time → SampleValues p records
-    → OneByteOff (samplePacket frame time p records) ys → Refused ys
+    (stamp : Stamp) (records ys : List ℕ) → StampFits lastSample stamp → SampleValues records
+    → OneByteOff (samplePacket stamp records) ys → Refused ys
 
 abbrev pub BeaconDamageRefused : Type 0
 BeaconDamageRefused =
-    (frame time : ℕ) (beacons ys : List ℕ) → Stamp frame time → BeaconValues beacons
-    → OneByteOff (beaconPacket frame time beacons) ys → Refused ys
+    (stamp : Stamp) (beacons ys : List ℕ) → StampFits 0 stamp → BeaconValues beacons
+    → OneByteOff (beaconPacket stamp beacons) ys → Refused ys

@@ -8,10 +8,10 @@ ghost use Rattle.packet.specs.Read.{rateGood, beaconGood};
 ghost use Rattle.ground.specs.Ground.{noSettings, refused, accepted, contents};
 use crate::Packet;
 use packet::fields;
-use packet::header;
-use packet::header::BEACONS;
-use packet::header::RATES;
 use packet::kind::Kind;
+use packet::layout;
+use packet::layout::BEACONS;
+use packet::layout::RATES;
 use settings::Settings;
 
 fn no_settings() -> Settings
@@ -65,8 +65,8 @@ fn accepted(
         kind,
         application: fields::application(packet),
         sequence: fields::sequence(packet),
-        time: wire::read::u32_at(packet, 6),
-        frame: wire::read::u16_at(packet, header::FRAME),
+        time: wire::read::u32_at(packet, layout::TIME_AT),
+        frame: wire::read::u16_at(packet, layout::FRAME_AT),
         rates,
         settings,
         sum,
@@ -83,7 +83,7 @@ pub fn rate_packet(packet: &[u8]) -> Packet
     let mut rates = [0u32; RATES];
     fields::rates(packet, &mut rates);
     let settings = fields::settings(packet);
-    let sum = wire::read::u24_at(packet, header::TABLE_SUM);
+    let sum = wire::read::u24_at(packet, layout::TABLE_SUM_AT);
     accepted(Kind::Rate, packet, rates, settings, sum, [0u32; BEACONS], 0)
 }
 
@@ -91,7 +91,7 @@ pub fn sample_packet(packet: &[u8]) -> Packet
     requires { ⌜ length (now packet) ≡ packetBytes ⌝ }
     ensures { λ r. ⌜ r ≡ contents Sample (now (packet .entry)) ⌝ }
 {
-    let p = packet[header::MARK];
+    let p = packet[layout::MARK_AT];
     accepted(
         Kind::Sample,
         packet,

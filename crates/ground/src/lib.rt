@@ -6,10 +6,12 @@ mod contents;
 
 use packet::faults::number;
 use packet::fields::application;
-use packet::header::BEACONS;
-use packet::header::RATES;
 use packet::kind::Kind;
 use packet::kind::kind_of;
+use packet::layout::BEACONS;
+use packet::layout::BODY_AT;
+use packet::layout::FRAME_AT;
+use packet::layout::RATES;
 use settings::Settings;
 
 // What a packet holds. What its kind has not is zero, and of a refused packet all but the number.
@@ -36,7 +38,7 @@ pub fn read(packet: &[u8]) -> Packet
     ensures { λ r. ⌜ r ≡ readOf (now (packet .entry)) ⌝ }
 {
     let n = number(packet);
-    if n != 0 {
+    if n != causes::CARRIED_OUT {
         return contents::refused(n);
     }
     let kind = kind_of(application(packet));
@@ -63,19 +65,19 @@ fn is_sample(kind: Kind) -> bool
 fn samples_in(packet: &[u8]) -> bool
     ensures { λ r. ⌜ r ≡ samplesIn (now (packet .entry)) ⌝ }
 {
-    if number(packet) == 0 {
+    if number(packet) == causes::CARRIED_OUT {
         is_sample(kind_of(application(packet)))
     } else {
         false
     }
 }
 
-// The record bytes of an accepted sample packet, as a part of it; of any other bytes an empty part.
+// The record bytes of an accepted sample packet, 11 to 266, as a part of it; of any other bytes an empty part.
 pub fn records(packet: &[u8]) -> &[u8]
     ensures { λ r. ⌜ now r ≡ recordsOf (now (packet .entry)) ⌝ }
 {
     if samples_in(packet) {
-        &packet[11..267]
+        &packet[BODY_AT..FRAME_AT]
     } else {
         &packet[..0]
     }

@@ -1,5 +1,7 @@
--- `Settings` and `Command` as the walks of both functions take them: each type's row, how a value of it is spelled in memory, and the laws that the walks cite, under short names.
---     lies-in, lies-out    a record in a local's cell lies in memory as a value of its type, so that it can be lent, and the cell is had back of one that lies there
+-- `Settings` and `Command` as the walks of both functions take them: each type's row, how a value of it is spelled in memory, and the
+-- laws that the walks cite, under short names.
+--     lies-in, lies-out    a record in a local's cell lies in memory as a value of its type, so that it can be lent, and the cell is
+-- had back of one that lies there
 -- The laws under a model assume `Given`; all else assumes nothing.
 use Prim.Native.Nat.{ℕ}
 use mathlib.Core.List.{[], _∷_, List}
@@ -63,14 +65,20 @@ module _ {M : Type 1} (𝓤 : URA M) (H : Heap 𝓤) (A : Atoms 𝓤) where
     abbrev pub command-typed : (c : Command) (vs : List Val) → Is command c vs → Typed (command .mir) vs
     command-typed = EL.lawful C.the-type C′.the-laws 𝓤 H A W tt .typed
 
-    pub lies-in : (s : Settings) → Is settings s (settings-vals s) → (l : ℕ) → ent 𝓤 (sem 𝓤 H A (fat fullShare S′.mir l 0 (settings-val s))) (sem 𝓤 H A (partAt settings fullShare s l 0))
+    pub lies-in : (s : Settings) → Is settings s (settings-vals s) → (l : ℕ)
+        → ent 𝓤 (sem 𝓤 H A (fat fullShare S′.mir l 0 (settings-val s))) (sem 𝓤 H A (partAt settings fullShare s l 0))
     unfolding partOf
     lies-in s is l =
-        qed W (‵ (fat fullShare S′.mir l 0 (settings-val s)) ∷ []) ∵ use1 W (‵ (cellAt fullShare (settings .mir) (settings-vals s) l 0)) (W .laws .at-raw fullShare S′.mir l 0 (settings-val s)) $
-        owned ! settings (Is settings) settings-makes s _ is $ move ! (1 ∷ 0 ∷ []) $ fjoin ! $ fpack ! (List Val) (λ us. fsep (cellAt fullShare (settings .mir) us l 0) (settings .own s us)) (settings-vals s) $ done !
+        qed W (‵ (fat fullShare S′.mir l 0 (settings-val s)) ∷ []) ∵ use1 W (‵ (cellAt fullShare (settings .mir) (settings-vals s) l 0))
+        (W .laws .at-raw fullShare S′.mir l 0 (settings-val s)) $
+        owned ! settings (Is settings) settings-makes s _ is $ move ! (1 ∷ 0 ∷ []) $ fjoin ! $
+        fpack ! (List Val) (λ us. fsep (cellAt fullShare (settings .mir) us l 0) (settings .own s us)) (settings-vals s) $ done !
 
-    pub lies-out : (s : Settings) (l : ℕ) → ent 𝓤 (sem 𝓤 H A (partAt settings fullShare s l 0)) (sep 𝓤 (sem 𝓤 H A (fat fullShare S′.mir l 0 (settings-val s))) (sem 𝓤 H A (settings .own s (settings-vals s))))
+    pub lies-out : (s : Settings) (l : ℕ)
+        → ent 𝓤 (sem 𝓤 H A (partAt settings fullShare s l 0))
+        (sep 𝓤 (sem 𝓤 H A (fat fullShare S′.mir l 0 (settings-val s))) (sem 𝓤 H A (settings .own s (settings-vals s))))
     unfolding partOf
     lies-out s l =
-        qed W (‵ (partAt settings fullShare s l 0) ∷ []) ∵ fpick ! (λ vs. fsplit ! $ spelt ! settings (Is settings) (shows 𝓤 H A settings) settings-vals settings-tells fullShare s vs l 0 $
+        qed W (‵ (partAt settings fullShare s l 0) ∷ []) ∵ fpick ! (λ vs. fsplit ! $
+        spelt ! settings (Is settings) (shows 𝓤 H A settings) settings-vals settings-tells fullShare s vs l 0 $
         use1 W (‵ (fat fullShare S′.mir l 0 (settings-val s))) (W .laws .raw-at fullShare S′.mir l 0 (settings-val s)) $ done !)

@@ -70,7 +70,12 @@ lawful-is a y reach h =
     let t₄ = leb (a + loadWords y reach) end in
     let h₃ = and-left (t₁ && t₂ && t₃) t₄ h in
     let h₂ = and-left (t₁ && t₂) t₃ h₃ in
-    record { way = leb-true y 2 (and-left t₁ t₂ h₂); some = leb-true 1 reach (and-right t₁ t₂ h₂); from = leb-true first a (and-right (t₁ && t₂) t₃ h₃); within = leb-true (a + loadWords y reach) end (and-right (t₁ && t₂ && t₃) t₄ h) }
+    record {
+      way = leb-true y 2 (and-left t₁ t₂ h₂);
+      some = leb-true 1 reach (and-right t₁ t₂ h₂);
+      from = leb-true first a (and-right (t₁ && t₂) t₃ h₃);
+      within = leb-true (a + loadWords y reach) end (and-right (t₁ && t₂ && t₃) t₄ h);
+    }
 
 -- its first word is one of the tables'
 pub lawful-start : (a y reach : ℕ) → loadLawful a y reach ≡ true → (first ≤ a) × (a < end)
@@ -120,14 +125,17 @@ pub length-packed : (y : ℕ) (bytes : List ℕ) → length (packed y bytes) ≡
 length-packed y bytes = length-packed-words (wordWidth y) bytes (width-small y) (loadWords y (length bytes))
 
 -- a lawful load stays within the tables
-pub load-within : (a y reach : ℕ) (staging : List ℕ) → loadLawful a y reach ≡ true → reach ≤ length staging → byteOf a + length (packed y (take reach staging)) ≤ tableBytes
+pub load-within : (a y reach : ℕ) (staging : List ℕ) → loadLawful a y reach ≡ true → reach ≤ length staging
+    → byteOf a + length (packed y (take reach staging)) ≤ tableBytes
 load-within a y reach staging h g =
     let l = lawful-is a y reach h in
     let n : length (take reach staging) ≡ reach = length-take-le reach staging g in
-    let e : length (packed y (take reach staging)) ≡ 3 * loadWords y reach = length-packed y (take reach staging) ∙ ap (λ (m : ℕ). 3 * loadWords y m) n in
+    let e : length (packed y (take reach staging)) ≡ 3 * loadWords y reach =
+    length-packed y (take reach staging) ∙ ap (λ (m : ℕ). 3 * loadWords y m) n in
     omega arith
 
-pub length-loaded : (tables staging : List ℕ) (a y reach : ℕ) → length tables ≡ tableBytes → loadLawful a y reach ≡ true → reach ≤ length staging → length (loaded tables staging a y reach) ≡ tableBytes
+pub length-loaded : (tables staging : List ℕ) (a y reach : ℕ) → length tables ≡ tableBytes → loadLawful a y reach ≡ true
+    → reach ≤ length staging → length (loaded tables staging a y reach) ≡ tableBytes
 unfolding loaded
 length-loaded tables staging a y reach lt h g =
     length-put (packed y (take reach staging)) tables (byteOf a) (omega (arith, load-within a y reach staging h g)) ∙ lt

@@ -1,9 +1,11 @@
 -- Load packages (document 01, "Commands and loads" and "Causes and their numbers"). Assumes nothing.
 use Prim.Native.Nat.{ℕ, _+_, _-_, _%_, max}
-use mathlib.Core.Bool.{Bool, _&&_, cond}
-use mathlib.Core.List.{List}
+use mathlib.Core.Bool.{Bool, _&&_}
+use mathlib.Core.List.{List, [], _∷_}
 use lib.Dec.{leb, eqb}
 use lib.ListN.{length, take, drop}
+use Rattle.causes.specs.Causes.{packageForm, pastStaging, packageSum}
+use Rattle.causes.specs.Checks.{Check, numberBy}
 use Rattle.wire.specs.Bytes.{at16, total, put}
 use Rattle.tables.specs.Tables.{tableBytes}
 use Rattle.load.specs.declared.staging.Addresses.{Addresses}
@@ -16,12 +18,11 @@ stagingBytes = tableBytes
 abbrev pub countOf : List ℕ → ℕ
 countOf p = at16 p 0
 
--- how many bytes are placed
-abbrev pub placedBytes : List ℕ → ℕ
-placedBytes p = countOf p - 2
+abbrev pub payloadBytes : List ℕ → ℕ
+payloadBytes p = countOf p - 2
 
 abbrev pub payload : List ℕ → List ℕ
-payload p = take (placedBytes p) (drop 2 p)
+payload p = take (payloadBytes p) (drop 2 p)
 
 abbrev pub receivedSum : List ℕ → ℕ
 receivedSum p = at16 p (countOf p)
@@ -34,21 +35,34 @@ unfoldable pub formed : List ℕ → Bool
 formed p = leb 2 (length p) && leb 2 (countOf p) && eqb (length p) (2 + countOf p)
 
 -- not "package passes staging's end"
-abbrev pub fits : List ℕ → ℕ → Bool
-fits p next = leb (next + placedBytes p) stagingBytes
+abbrev pub fits : List ℕ → (next : ℕ) → Bool
+fits p next = leb (next + payloadBytes p) stagingBytes
 
--- such a package is placed, whether its sum is right (0) or wrong (10)
-abbrev pub placeable : List ℕ → ℕ → Bool
+-- such a package is staged, whether its sum is right (0) or wrong (10)
+abbrev pub placeable : List ℕ → (next : ℕ) → Bool
 placeable p next = formed p && fits p next
 
--- its number: 8, 9 and 10 of "Causes and their numbers", the lowest that applies; 0 for a right one
-unfoldable pub packageNumber : List ℕ → ℕ → ℕ
-packageNumber p next =
-    cond (formed p) (cond (fits p next) (cond (eqb (receivedSum p) (computedSum p)) 0 10) 9) 8
+-- its causes: "8 no N, N below 2 or not matching the bytes; 9 package passes staging's end; 10 package sum wrong"
+abbrev pub packageChecks : (p : List ℕ) (next : ℕ) → List Check
+packageChecks p next =
+    (formed p, packageForm) ∷ (fits p next, pastStaging) ∷ (eqb (receivedSum p) (computedSum p), packageSum) ∷ []
+
+unfoldable pub packageNumber : (p : List ℕ) (next : ℕ) → ℕ
+packageNumber p next = numberBy (packageChecks p next)
+
+-- ---- staging and its addresses
 
 -- "Bytes go to the next address, which moves past them, reach too"
-unfoldable pub stagingAfter : List ℕ → ℕ → List ℕ → List ℕ
+unfoldable pub stagingAfter : (staging : List ℕ) (next : ℕ) (p : List ℕ) → List ℕ
 stagingAfter staging next p = put staging next (payload p)
 
-abbrev pub addressesAfter : ℕ → ℕ → List ℕ → Addresses
-addressesAfter next reach p = record { next = next + placedBytes p; reach = max reach (next + placedBytes p) }
+abbrev pub addressesAfter : Addresses → (p : List ℕ) → Addresses
+addressesAfter a p = record { next = a .next + payloadBytes p; reach = max (a .reach) (a .next + payloadBytes p) }
+
+-- "Fresh: .. staging addresses 0"; "load 0 sets both to 0"
+abbrev pub freshAddresses : Addresses
+freshAddresses = record { next = 0; reach = 0 }
+
+-- "next address ≤ reach ≤ 62,985"
+abbrev pub addressesWithin : Addresses → Bool
+addressesWithin a = leb (a .next) (a .reach) && leb (a .reach) stagingBytes

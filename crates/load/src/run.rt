@@ -35,14 +35,14 @@ fn smaller(a: usize, b: usize) -> usize
     b
 }
 
-// Word k of the reach, packed into its place. What is left of the reach may be less than a word.
-fn load_word(tables: &mut [u8], staging: &[u8], at: usize, width: usize, k: usize, reach: usize)
+// Word k of the first n staged bytes, packed into its place. What is left of them may be less than a word.
+fn load_word(tables: &mut [u8], staging: &[u8], at: usize, width: usize, k: usize, n: usize)
     requires { ⌜ (at + 3 * k) + 3 ≤ length (now tables) ⌝ }
-    requires { ⌜ (width ≤ 3) × (width * k ≤ reach) × (reach ≤ length (now staging)) ⌝ }
-    ensures { λ _. ⌜ now (tables .exit) ≡ put (now (tables .entry)) (at + 3 * k) (packedWord width (take reach (now (staging .entry))) k) ⌝ }
+    requires { ⌜ (width ≤ 3) × (width * k ≤ n) × (n ≤ length (now staging)) ⌝ }
+    ensures { λ _. ⌜ now (tables .exit) ≡ put (now (tables .entry)) (at + 3 * k) (packedWord width (take n (now (staging .entry))) k) ⌝ }
 {
     let from = width * k;
-    let to = from + smaller(width, reach - from);
+    let to = from + smaller(width, n - from);
     put_packed(tables, at + 3 * k, width, &staging[from..to]);
 }
 

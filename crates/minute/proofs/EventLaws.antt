@@ -1,4 +1,4 @@
--- Laws of event records one after the other. Assumes nothing.
+-- One more event record leads on from the state and slots of those before it. Assumes nothing.
 use mathlib.Core.Path.{_≡_, refl, sym, ap, _∙_}
 use mathlib.Core.List.{List}
 use mathlib.Core.Logic.{⊎-elim}
@@ -7,11 +7,11 @@ use native.Mathlib.Nat.{eq-or-lt-of-le, not-suc-le-zero}
 use native.Mathlib.Omega.{arith}
 use lib.ListN.{getD, take, drop, length-drop}
 use lib.Seq.{drop-drop}
-use Rattle.load.proofs.ListLaws.{part-of-reach}
+use Rattle.wire.proofs.Lists.{part-of-reach}
 use Rattle.state.specs.declared.State.{State}
 use Rattle.stream.specs.declared.input.Input.{Input}
 use Rattle.stream.specs.Input.{Held, waitingIn}
-use Rattle.stream.specs.Record.{recordAnswer, recordSlots}
+use Rattle.stream.specs.Record.{recordDone}
 use Rattle.stream.proofs.InputLaws.{waiting-byte}
 use Rattle.minute.specs.Events.{bodyOf, ranOf, EventsRun}
 
@@ -46,7 +46,7 @@ module _ (s : State) (tables slots bytes : List ℕ) where
 
   pub events-more : (used : ℕ) (after : State) (left body : List ℕ) → EventsRun s tables slots bytes used after left
       → getD bytes used 0 ≡ 1 → body ≡ take 7 (drop (used + 1) bytes)
-      → EventsRun s tables slots bytes (used + 8) (recordAnswer after tables left body .state) (recordSlots after tables left body)
+      → EventsRun s tables slots bytes (used + 8) (recordDone after tables left body .answer .state) (recordDone after tables left body .slots)
   unfolding ranOf
   events-more used after left body r k e =
       let is : body ≡ bodyOf bytes (r .many) = e ∙ ap (λ (n : ℕ). take 7 (drop (n + 1) bytes)) (r .used-are) in
@@ -54,6 +54,6 @@ module _ (s : State) (tables slots bytes : List ℕ) where
         many = suc (r .many);
         used-are = omega (arith, r .used-are);
         kinds = λ i h. ⊎-elim (λ q. rw q (rw (r .used-are) at k)) (λ q. r .kinds i q) (eq-or-lt-of-le (omega arith));
-        state-is = λ j. recordAnswer (r .state-is j) tables (r .slots-are j) (is j) .state;
-        slots-are = λ j. recordSlots (r .state-is j) tables (r .slots-are j) (is j);
+        state-is = λ j. recordDone (r .state-is j) tables (r .slots-are j) (is j) .answer .state;
+        slots-are = λ j. recordDone (r .state-is j) tables (r .slots-are j) (is j) .slots;
       }

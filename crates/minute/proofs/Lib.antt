@@ -1,4 +1,4 @@
--- Laws that the proofs cite.
+-- Laws of lines, of events in a row and of records.
 mod LineLaws
 mod EventLaws
 mod RecordLaws

@@ -1,4 +1,4 @@
--- Where a zero-filled line ends. Assumes nothing.
+-- A zero-filled line goes on over a byte that is no zero, and ends at a zero or at the end of its body. Assumes nothing.
 use mathlib.Core.Path.{_≡_}
 use mathlib.Core.List.{List}
 use Prim.Native.Nat.{ℕ, suc, _+_, _≤_, _<_}

@@ -5,7 +5,7 @@ use mathlib.Core.List.{List}
 use Prim.Native.Nat.{ℕ, zero, suc, _+_, _-_, _*_, _<_}
 use lib.ListN.{getD, take, drop}
 use Rattle.state.specs.declared.State.{State}
-use Rattle.stream.specs.Record.{recordAnswer, recordSlots}
+use Rattle.stream.specs.Record.{recordDone}
 
 -- "a kind byte, then a body: 1 event (7 bytes ..)": the body of record n
 abbrev pub bodyOf : (bytes : List ℕ) (n : ℕ) → List ℕ
@@ -16,7 +16,8 @@ unfoldable pub ranOf : State → (tables slots bytes : List ℕ) → ℕ → Sta
 ranOf s tables slots bytes zero = (s, slots)
 ranOf s tables slots bytes (suc n) =
     let p = ranOf s tables slots bytes n in
-    (recordAnswer (p .0) tables (p .1) (bodyOf bytes n) .state, recordSlots (p .0) tables (p .1) (bodyOf bytes n))
+    let d = recordDone (p .0) tables (p .1) (bodyOf bytes n) in
+    (d .answer .state, d .slots)
 
 -- the first bytes, `used` of them, are event records, and they led from one state and slots to the others
 pub record EventsRun (s : State) (tables slots bytes : List ℕ) (used : ℕ) (after : State) (left : List ℕ) : Type 0 where

@@ -1,7 +1,7 @@
 -- Records of minute (document 01, "The program minute"). Assumes nothing.
 use mathlib.Core.List.{List}
 use mathlib.Core.Path.{_≡_}
-use Prim.Native.Nat.{ℕ, _-_}
+use Prim.Native.Nat.{ℕ, _+_, _-_}
 use Rattle.stream.specs.Record.{LongAs, FoundIn}
 use Rattle.stream.specs.declared.record.Next.{Next}
 use Rattle.stream.specs.declared.record.Next.the-variants.{End, Bad, Record}
@@ -10,12 +10,12 @@ use Rattle.stream.specs.declared.record.Next.the-variants.{End, Bad, Record}
 abbrev pub Long : (kind n : ℕ) → Type 0
 Long kind n = LongAs kind n × (kind ≡ 3 → n ≡ 80)
 
--- the body of a record has the length of its kind
+-- the body of a record stands right behind its kind, and has the length of its kind
 abbrev pub BodyLong : Next → Type 0
 BodyLong End = Unit {0}
 BodyLong Bad = Unit {0}
-BodyLong (Record kind from rest) = Long kind (rest .at - from)
+BodyLong (Record kind start from rest) = (start + 1 ≡ from) × Long kind (rest .at - from)
 
--- the record that stands first where the bytes `old` wait: its body is right behind its kind
+-- the record that stands first where the bytes `old` wait
 abbrev pub FirstOf : Next → (old buffer : List ℕ) → Type 0
-FirstOf r old buffer = FoundIn (λ _. 1) r old buffer × BodyLong r
+FirstOf r old buffer = FoundIn r old buffer × BodyLong r

@@ -2,38 +2,43 @@
 use mathlib.Core.Bool.{true, false}
 use mathlib.Core.List.{List}
 use mathlib.Core.Path.{_≡_}
-use Prim.Native.Nat.{ℕ, _-_, _≤_}
+use Prim.Native.Nat.{ℕ, _-_, _≤_, _<_}
 use lib.ListN.{take, drop}
 use Rattle.state.specs.declared.State.{State}
+use Rattle.stream.specs.declared.input.Input.{Input}
 use Rattle.stream.specs.Input.{Held, waitingIn}
 use Rattle.stream.specs.declared.record.Next.{Next}
 use Rattle.stream.specs.declared.record.Next.the-variants.{End, Bad, Record}
 use Rattle.stream.specs.declared.record.Step.{Step}
-use Rattle.minute.specs.Calls.{carriedOut, tablesThen, slotsThen}
+use Rattle.minute.specs.Calls.{carriedOut}
 use Rattle.minute.specs.Events.{EventsRun, NoEvent}
 use Rattle.minute.specs.Record.{Long}
 
--- the record lies in the buffer, its body right behind its kind
+-- the record lies in the buffer, from its start on
 abbrev pub LiesIn : Next → (buffer : List ℕ) → Type 0
 LiesIn End buffer = Unit {0}
 LiesIn Bad buffer = Unit {0}
-LiesIn (Record kind from rest) buffer = (1 ≤ from) × (from ≤ rest .at) × Held rest buffer × Long kind (rest .at - from)
+LiesIn (Record kind start from rest) buffer = (start < from) × (from ≤ rest .at) × Held rest buffer × Long kind (rest .at - from)
+
+-- its body
+abbrev pub bodyIn : (from : ℕ) → Input → (buffer : List ℕ) → List ℕ
+bodyIn from rest buffer = take (rest .at - from) (drop from buffer)
 
 -- from state s, tables and slots to those of the step. The end and a bad record change nothing and are the last. An event
 -- is carried out with all events behind it; any other record alone, and the program goes on behind it
 abbrev pub Stepped : Next → State → (tables staging slots buffer : List ℕ) → Step → (tables′ slots′ : List ℕ) → Type 0
 Stepped End s tables staging slots buffer r tables′ slots′ = (r .state ≡ s) × (tables′ ≡ tables) × (slots′ ≡ slots) × (r .more ≡ false)
 Stepped Bad s tables staging slots buffer r tables′ slots′ = (r .state ≡ s) × (tables′ ≡ tables) × (slots′ ≡ slots) × (r .more ≡ false)
-Stepped (Record kind from rest) s tables staging slots buffer r tables′ slots′ =
+Stepped (Record kind start from rest) s tables staging slots buffer r tables′ slots′ =
     (kind ≡ 1 →
-    EventsRun s tables slots (waitingIn (record { at = from - 1; end = rest .end }) buffer) (r .input .at - (from - 1)) (r .state) slots′
+    EventsRun s tables slots (waitingIn (record { at = start; end = rest .end }) buffer) (r .input .at - start) (r .state) slots′
     × NoEvent (r .input .at) (r .input .end) buffer
     × (tables′ ≡ tables)
     × (r .more ≡ true))
     × ((kind ≡ 1 → ⊥) →
-    (r .state ≡ carriedOut kind s tables staging slots (take (rest .at - from) (drop from buffer)) .state)
-    × (tables′ ≡ tablesThen kind s tables staging slots)
-    × (slots′ ≡ slotsThen kind s tables staging slots)
+    (r .state ≡ carriedOut kind s tables staging slots (bodyIn from rest buffer) .answer .state)
+    × (tables′ ≡ carriedOut kind s tables staging slots (bodyIn from rest buffer) .tables)
+    × (slots′ ≡ carriedOut kind s tables staging slots (bodyIn from rest buffer) .slots)
     × (r .input .at ≡ rest .at)
     × (r .input .end ≡ rest .end)
     × (r .more ≡ true))

@@ -3,13 +3,13 @@ ghost use mathlib.Core.Bool.{true};
 ghost use mathlib.Core.Path.{_≡_};
 ghost use Prim.Native.Nat.{_-_, _≤_};
 ghost use lib.ListN.{length};
-ghost use Rattle.wire.specs.Bytes.{zeros};
+ghost use Rattle.wire.specs.Bytes.{zeros, at32};
 ghost use Rattle.command.specs.Echo.{echoBytes};
-ghost use Rattle.processor.specs.Line.{lineAnswer};
-ghost use Rattle.processor.specs.Close.{outBytes, closeTables, closeSlots};
+ghost use Rattle.processor.specs.Line.{lineDone};
+ghost use Rattle.processor.specs.Close.{outBytes, closeDone};
 ghost use Rattle.stream.specs.Input.{Held, waitingIn};
 ghost use Rattle.stream.specs.Record.{LongAs};
-ghost use Rattle.minute.specs.Calls.{closed, carriedOut, tablesThen, slotsThen};
+ghost use Rattle.minute.specs.Calls.{closedTo, carriedOut};
 ghost use Rattle.minute.specs.Events.{EventsRun, NoEvent};
 ghost use Rattle.minute.specs.Line.{lineLength, lineIn};
 use processor::Answer;
@@ -39,7 +39,7 @@ fn line_length(body: &[u8]) -> usize
 
 // One command line. Its echo is not printed.
 fn line(state: State, body: &[u8]) -> Answer
-    ensures { λ r. ⌜ r ≡ lineAnswer state (lineIn (now (body .entry))) (zeros echoBytes) ⌝ }
+    ensures { λ r. ⌜ r ≡ lineDone state (lineIn (now (body .entry))) (zeros echoBytes) .answer ⌝ }
 {
     let n = line_length(body);
     let mut echo = [0u8; command::echo::ECHO_BYTES];
@@ -62,7 +62,7 @@ fn print_box(text: &mut [u8], at: &mut usize, counts: Counts, b: usize)
 
 // The ended frame, taken, boxes 5, 6 and 7, and the filled slots. A refused close is printed as a refusal.
 fn print_closed(text: &mut [u8], at: &mut usize, frame: u16, closed: Closed) {
-    if closed.number != processor::CARRIED_OUT {
+    if closed.number != causes::CARRIED_OUT {
         return;
     }
     let counts = closed.counts;
@@ -86,12 +86,15 @@ fn close(
     at: &mut usize,
 ) -> Answer
     requires { ⌜ length (now body) ≡ 4 ⌝ }
-    ensures answer { λ r. ⌜ r ≡ closed state (now (tables .entry)) (now (staging .entry)) (now (slots .entry)) ⌝ }
-    ensures tables { λ r. ⌜ now (tables .exit) ≡ closeTables state (now (tables .entry)) (now (staging .entry)) (now (slots .entry)) (zeros outBytes) ⌝ }
-    ensures slots { λ r. ⌜ now (slots .exit) ≡ closeSlots state (now (tables .entry)) (now (staging .entry)) (now (slots .entry)) (zeros outBytes) ⌝ }
+    ensures answer { λ r. ⌜ r
+        ≡ closedTo (closeDone state (at32 (now (body .entry)) 0) (now (tables .entry)) (now (staging .entry)) (now (slots .entry)) (zeros outBytes)) .answer ⌝ }
+    ensures tables { λ r. ⌜ now (tables .exit)
+        ≡ closeDone state (at32 (now (body .entry)) 0) (now (tables .entry)) (now (staging .entry)) (now (slots .entry)) (zeros outBytes) .tables ⌝ }
+    ensures slots { λ r. ⌜ now (slots .exit)
+        ≡ closeDone state (at32 (now (body .entry)) 0) (now (tables .entry)) (now (staging .entry)) (now (slots .entry)) (zeros outBytes) .slots ⌝ }
 {
     let time = wire::read::u32_at(body, 0);
-    let mut packets = [0u8; processor::packets::OUT_BYTES];
+    let mut packets = [0u8; processor::close::OUT_BYTES];
     let closed = processor::close::close(state, time, tables, staging, slots, &mut packets);
     print_closed(text, at, state.frame, closed);
     let after = closed.state;
@@ -113,9 +116,12 @@ pub fn carry_out(
     at: &mut usize,
 ) -> Answer
     requires { ⌜ LongAs kind (length (now body)) ⌝ }
-    ensures answer { λ r. ⌜ r ≡ carriedOut kind state (now (tables .entry)) (now (staging .entry)) (now (slots .entry)) (now (body .entry)) ⌝ }
-    ensures tables { λ r. ⌜ now (tables .exit) ≡ tablesThen kind state (now (tables .entry)) (now (staging .entry)) (now (slots .entry)) ⌝ }
-    ensures slots { λ r. ⌜ now (slots .exit) ≡ slotsThen kind state (now (tables .entry)) (now (staging .entry)) (now (slots .entry)) ⌝ }
+    ensures answer { λ r. ⌜ r
+        ≡ carriedOut kind state (now (tables .entry)) (now (staging .entry)) (now (slots .entry)) (now (body .entry)) .answer ⌝ }
+    ensures tables { λ r. ⌜ now (tables .exit)
+        ≡ carriedOut kind state (now (tables .entry)) (now (staging .entry)) (now (slots .entry)) (now (body .entry)) .tables ⌝ }
+    ensures slots { λ r. ⌜ now (slots .exit)
+        ≡ carriedOut kind state (now (tables .entry)) (now (staging .entry)) (now (slots .entry)) (now (body .entry)) .slots ⌝ }
 {
     match kind {
         stream::record::READING => stream::record::reading(state, body),
@@ -136,7 +142,8 @@ pub fn events(
 ) -> Step
     requires { ⌜ Held input (now buffer) ⌝ }
     ensures input { λ r. ⌜ Held (r .input) (now (buffer .entry)) × (input .at ≤ r .input .at) × (r .input .end ≡ input .end) ⌝ }
-    ensures run { λ r. ⌜ EventsRun state (now (tables .entry)) (now (slots .entry)) (waitingIn input (now (buffer .entry))) (r .input .at - input .at) (r .state) (now (slots .exit)) ⌝ }
+    ensures run { λ r. ⌜ EventsRun state (now (tables .entry)) (now (slots .entry)) (waitingIn input (now (buffer .entry)))
+        (r .input .at - input .at) (r .state) (now (slots .exit)) ⌝ }
     ensures all { λ r. ⌜ NoEvent (r .input .at) (r .input .end) (now (buffer .entry)) × (r .more ≡ true) ⌝ }
 {
     let end = input.end;
@@ -150,7 +157,7 @@ pub fn events(
         let answer = stream::record::event(after, tables, slots, body);
         // Handed on before the test: that saves the compiled program a copy of the state.
         after = answer.state;
-        if answer.number != processor::CARRIED_OUT {
+        if answer.number != causes::CARRIED_OUT {
             print_refusal(text, at, answer.number);
         }
         from += EVENT_RECORD;

@@ -28,15 +28,21 @@ fn step(
 ) -> Step
     requires { ⌜ LiesIn found (now buffer) ⌝ }
     ensures input { λ r. ⌜ Held (r .input) (now (buffer .entry)) ⌝ }
-    ensures step { λ r. ⌜ Stepped found state (now (tables .entry)) (now (staging .entry)) (now (slots .entry)) (now (buffer .entry)) r (now (tables .exit)) (now (slots .exit)) ⌝ }
+    ensures step { λ r. ⌜ Stepped found state (now (tables .entry)) (now (staging .entry)) (now (slots .entry)) (now (buffer .entry))
+        r (now (tables .exit)) (now (slots .exit)) ⌝ }
 {
     match found {
         Next::End => stopped(state),
         Next::Bad => bad(state, text, at),
-        Next::Record { kind, from, rest } => {
+        Next::Record {
+            kind,
+            start,
+            from,
+            rest,
+        } => {
             if kind == stream::record::EVENT {
                 let first = Input {
-                    at: from - 1,
+                    at: start,
                     end: rest.end,
                 };
                 return calls::events(state, first, tables, slots, buffer, text, at);
@@ -44,7 +50,7 @@ fn step(
             let to = rest.at;
             let body = &buffer[from..to];
             let answer = calls::carry_out(kind, state, tables, staging, slots, body, text, at);
-            if answer.number != processor::CARRIED_OUT {
+            if answer.number != causes::CARRIED_OUT {
                 calls::print_refusal(text, at, answer.number);
             }
             going_on(answer.state, rest)

@@ -1,29 +1,37 @@
 -- A reader accepts every packet that a writer writes, and finds in it what went in, by kind. Assumes nothing.
 use mathlib.Core.Path.{_≡_, refl, sym, ap, _∙_}
-use mathlib.Core.Bool.{Bool, true, false, cond}
+use mathlib.Core.Bool.{true}
 use mathlib.Core.List.{List, _++_, map}
 use Prim.Native.Nat.{ℕ, _+_, _*_, _/_, _%_, _≤_, _<_}
 use native.Mathlib.Omega.{arith}
 use lib.ListN.{length, getD, length-append, length-map, getD-replicate}
-use lib.Dec.{eqb}
 use borrow.Author.Tests.{eq-eqb, ne-eqb, le-leb}
+use Rattle.wire.specs.Bits.{bitOf}
 use Rattle.wire.specs.Bytes.{at16, words, zeros}
 use Rattle.wire.specs.Lists.{EachBelow}
-use Rattle.wire.specs.Pieces.{each}
+use Rattle.wire.proofs.BitLaws.{bit-small, bit-back}
 use Rattle.wire.proofs.Bytes.{value16, value24}
 use Rattle.wire.proofs.Lists.{all-get, map-at, each-append}
 use Rattle.wire.proofs.Pieces.{table-is, each-all}
 use Rattle.settings.specs.declared.Settings.{Settings}
 use Rattle.settings.specs.Settings.{slotCount}
+use Rattle.sample_record.specs.Record.{recordGood}
 use Rattle.packet.specs.declared.kind.Kind.{Kind}
 use Rattle.packet.specs.declared.kind.Kind.the-variants.{Rate, Sample, Beacon}
+use Rattle.packet.specs.declared.stamp.Stamp.{Stamp}
 use Rattle.packet.specs.Rate.{countLimit, rateCode, leastCount, codeValid}
-use Rattle.packet.specs.Packet.{rateApplication, sampleApplication, beaconApplication, lastSample, packetOf, codes, bit, flagsOf, settingsBytes, rateBody, beaconBody}
-use Rattle.packet.specs.Read.{applicationOf, kindOf, isKind, isSet, ratesOf, settingsOf, sumOf, codesGood, zerosGood, recordGood, recordsGood, rateGood, sampleGood, beaconGood, bodyGood, readNumber}
-use Rattle.packet.specs.Ranges.{RateValues, SampleValues, BeaconValues}
+use Rattle.packet.specs.Layout.{bodyAt, innerBytes, secondaryFlag, bodyBytes, codeBytes}
+use Rattle.packet.specs.Layout.{rateCount, recordCount, beaconCount, beaconEnd, beaconUnused}
+use Rattle.packet.specs.Layout.{gapAt, hvstepAt, limhiAt, hvFlag, eonlyFlag, toferrorFlag, junkFlag}
+use Rattle.packet.specs.Packet.{rateApplication, sampleApplication, beaconApplication, lastSample, stampOf, trailer, packetOf}
+use Rattle.packet.specs.Packet.{codes, settingsFlags, settingsBytes, rateBody, beaconBody}
+use Rattle.packet.specs.Read.{applicationOf, kindOf, isKind, flagByte, ratesOf, settingsOf, sumOf, lastOf, unmarked}
+use Rattle.packet.specs.Read.{codesGood, zerosGood, recordsGood, rateGood, sampleGood, beaconGood, bodyGood, readNumber}
+use Rattle.packet.specs.Ranges.{StampFits, RateValues, SampleValues, BeaconValues}
 use Rattle.packet.proofs.Codes.{code-valid}
-use Rattle.packet.proofs.Written.{length-codes, length-rate-body, length-sample-body, length-beacon-body, codes-append}
-use Rattle.packet.proofs.Reading.{past-sum}
+use Rattle.packet.proofs.Written.{length-codes, codes-append, length-inner}
+use Rattle.packet.proofs.Written.{length-rate-body, length-sample-body, length-beacon-body}
+use Rattle.packet.proofs.Reading.{accepted-is}
 use Rattle.packet.proofs.Back as back
 use Rattle.packet.proofs.Back.{both, behind}
 
@@ -48,98 +56,95 @@ sample-kind p h =
       le-leb n (sampleApplication + lastSample) (omega arith),
     )
 
+-- the stamp of a frame and a time fits
+pub stamp-fits : (frame time mark marks : ℕ) → frame < 65536 → time < 4294967296 → mark ≤ marks → StampFits marks (stampOf frame time mark)
+stamp-fits frame time mark marks hf ht hm =
+    record { sequence-fits = omega arith; time-fits = ht; frame-fits = hf; mark-fits = hm; last-is = refl }
+
 -- ---- any kind: where the body has no fault the packet is accepted
 
-module _ (a f t m : ℕ) (body : List ℕ) (lb : length body ≡ 256) (ha : a < 2048) where
-  number-back : (k : Kind) → kindOf a ≡ k → isKind k ≡ true → bodyGood k (packetOf a f t m body) ≡ true → readNumber (packetOf a f t m body) ≡ 0
+module _ (a : ℕ) (st : Stamp) (body : List ℕ) (lb : length body ≡ bodyBytes) (ha : a < secondaryFlag) where
+  abbrev P : List ℕ
+  P = packetOf a st body
+
+  inner : length (body ++ trailer st) ≡ innerBytes
+  inner = length-inner st body lb
+
+  pub application-back : applicationOf P ≡ a
+  application-back = back.application-back a _ _ _ inner ha
+
+  pub kind-back : (k : Kind) → kindOf a ≡ k → kindOf (applicationOf P) ≡ k
+  kind-back k e = ap kindOf application-back ∙ e
+
+  number-back : (k : Kind) → kindOf a ≡ k → isKind k ≡ true → bodyGood k P ≡ true → readNumber P ≡ 0
   number-back k e i g =
-      let P : List ℕ = packetOf a f t m body in
-      let ek : kindOf (applicationOf P) ≡ k = ap kindOf (back.application-back a f t m body lb ha) ∙ e in
-      past-sum P (back.header-back a f t m body lb ha (ap isKind e ∙ i)) (back.sum-back a f t m body lb)
-      ∙ ap (λ (b : Bool). cond b 0 13) (ap (λ (x : Kind). bodyGood x P) ek ∙ g)
+      accepted-is P (back.header-back a _ _ _ inner ha (ap isKind e ∙ i)) (back.sum-back a _ _ _ inner)
+      (ap (λ (x : Kind). bodyGood x P) (kind-back k e) ∙ g)
 
   -- codes that counts have are without fault, and give the counts' least counts
-  module _ (ns rest : List ℕ) (e : body ≡ codes ns ++ rest) (h : EachBelow countLimit ns) where
-    codes-back : (n : ℕ) → length ns ≡ n → codesGood n (packetOf a f t m body) ≡ true
-    unfolding codesGood
-    codes-back n l =
-        each-all _ n (λ i q. ap codeValid (back.code-back a f t m body lb ns rest e i (omega arith)) ∙ code-valid _ (h i))
-
-    rates-back : (n : ℕ) → length ns ≡ n → ratesOf n (packetOf a f t m body) ≡ map (λ c. leastCount (rateCode c)) ns
-    unfolding ratesOf
-    rates-back n l =
+  codes-back : (ns rest : List ℕ) → body ≡ codes ns ++ rest → EachBelow countLimit ns → (n : ℕ) → length ns ≡ n
+      → (codesGood n P ≡ true) × (ratesOf n P ≡ map (λ c. leastCount (rateCode c)) ns)
+  unfolding codesGood ratesOf
+  codes-back ns rest e h n l =
+      let code = back.code-back a st body lb ns rest e in (
+        each-all _ n (λ i q. ap codeValid (code i (omega arith)) ∙ code-valid _ (h i)),
         table-is _ n _ (length-map ns (λ c. leastCount (rateCode c)) ∙ l) (λ i q.
-        let k : i < length ns = omega arith in
-        ap leastCount (back.code-back a f t m body lb ns rest e i k) ∙ sym (map-at (λ c. leastCount (rateCode c)) ns i k))
+            let k : i < length ns = omega arith in
+            ap leastCount (code i k) ∙ sym (map-at (λ c. leastCount (rateCode c)) ns i k)),
+      )
 
--- bytes 269 and 270 of a packet without a mark
-unmarked-back : (a f t : ℕ) (body : List ℕ) → length body ≡ 256 → zerosGood 269 2 (packetOf a f t 0 body) ≡ true
-unfolding zerosGood each
-unmarked-back a f t body lb = both (eq-eqb _ _ (back.mark-back a f t 0 body lb)) (eq-eqb _ _ (back.last-back a f t 0 body lb))
+  last-zero : (marks : ℕ) → StampFits marks st → lastOf P ≡ 0
+  last-zero marks h = back.last-back a st body lb ∙ h .last-is
+
+  unmarked-back : StampFits 0 st → unmarked P ≡ true
+  unmarked-back h = both (eq-eqb _ _ (back.mark-back a st body lb ∙ omega (arith, h .mark-fits))) (eq-eqb _ _ (last-zero 0 h))
 
 -- ---- a rate packet
 
--- the flags' bits are the flags
-one-set : (b : Bool) → eqb (bit b) 1 ≡ b
-one-set true = refl
-one-set false = refl
+pub flags-le : (s : Settings) → (bitOf (s .hv) ≤ 1) × (bitOf (s .eonly) ≤ 1) × (bitOf (s .toferror) ≤ 1) × (bitOf (s .junk) ≤ 1)
+flags-le s = (bit-small (s .hv), bit-small (s .eonly), bit-small (s .toferror), bit-small (s .junk))
 
-bit-le : (b : Bool) → bit b ≤ 1
-bit-le true = omega arith
-bit-le false = omega arith
-
-pub flags-le : (s : Settings) → (bit (s .hv) ≤ 1) × (bit (s .eonly) ≤ 1) × (bit (s .toferror) ≤ 1) × (bit (s .junk) ≤ 1)
-flags-le s = (bit-le (s .hv), bit-le (s .eonly), bit-le (s .toferror), bit-le (s .junk))
-
-module _ (s : Settings) where
-  flag-at : (v : ℕ) (b : Bool) → flagsOf s / v % 2 ≡ bit b → isSet (flagsOf s) v ≡ b
-  flag-at v b e = ap (λ (n : ℕ). eqb n 1) e ∙ one-set b
-
-  hv-set : isSet (flagsOf s) 128 ≡ s .hv
-  hv-set = flag-at 128 (s .hv) (omega (arith, flags-le s))
-
-  eonly-set : isSet (flagsOf s) 64 ≡ s .eonly
-  eonly-set = flag-at 64 (s .eonly) (omega (arith, flags-le s))
-
-  toferror-set : isSet (flagsOf s) 32 ≡ s .toferror
-  toferror-set = flag-at 32 (s .toferror) (omega (arith, flags-le s))
-
-  junk-set : isSet (flagsOf s) 16 ≡ s .junk
-  junk-set = flag-at 16 (s .junk) (omega (arith, flags-le s))
-
-module _ (f t : ℕ) (totals boxes : List ℕ) (s : Settings) (sum : ℕ) (v : RateValues totals boxes s sum) where
+module _ (st : Stamp) (fits : StampFits 0 st) (totals boxes : List ℕ) (s : Settings) (sum : ℕ) (v : RateValues totals boxes s sum) where
   abbrev rate-body : List ℕ
   rate-body = rateBody totals boxes s sum
 
   abbrev rate-is : List ℕ
-  rate-is = packetOf rateApplication f t 0 rate-body
+  rate-is = packetOf rateApplication st rate-body
 
-  length-counts : length (totals ++ boxes) ≡ 124
+  pub rate-length : length rate-body ≡ bodyBytes
+  rate-length = length-rate-body totals boxes s sum (v .totals-are) (v .boxes-are)
+
+  length-counts : length (totals ++ boxes) ≡ rateCount
   length-counts = length-append totals boxes ∙ omega (arith, v .totals-are, v .boxes-are)
-
-  counts-fit : EachBelow countLimit (totals ++ boxes)
-  counts-fit = each-append countLimit totals boxes (v .totals-fit) (v .boxes-fit)
 
   rate-split : rate-body ≡ codes (totals ++ boxes) ++ settingsBytes s sum
   rate-split = ap (λ (l : List ℕ). l ++ settingsBytes s sum) (codes-append totals boxes)
 
-  length-before : length (codes (totals ++ boxes)) ≡ 248
-  length-before = length-codes (totals ++ boxes) ∙ omega (arith, length-counts)
+  pub rate-codes : (codesGood rateCount rate-is ≡ true) × (ratesOf rateCount rate-is ≡ map (λ c. leastCount (rateCode c)) (totals ++ boxes))
+  rate-codes =
+      codes-back rateApplication st rate-body rate-length (omega arith) (totals ++ boxes) (settingsBytes s sum) rate-split
+      (each-append countLimit totals boxes (v .totals-fit) (v .boxes-fit)) rateCount length-counts
 
-  pub rate-length : length rate-body ≡ 256
-  rate-length = length-rate-body totals boxes s sum (v .totals-are) (v .boxes-are)
-
-  settings-at : (j : ℕ) → j < 8 → getD rate-is (11 + (248 + j)) 0 ≡ getD (settingsBytes s sum) j 0
+  settings-at : (j : ℕ) → j < 8 → getD rate-is (bodyAt + (codeBytes * rateCount + j)) 0 ≡ getD (settingsBytes s sum) j 0
   settings-at j h =
-      back.body-at rateApplication f t 0 rate-body rate-length (248 + j) (omega arith)
-      ∙ ap (λ (b : List ℕ). getD b (248 + j) 0) rate-split
-      ∙ behind (codes (totals ++ boxes)) (settingsBytes s sum) 248 j length-before
+      back.body-at rateApplication st rate-body rate-length (codeBytes * rateCount + j) (omega arith)
+      ∙ ap (λ (b : List ℕ). getD b (codeBytes * rateCount + j) 0) rate-split
+      ∙ behind (codes (totals ++ boxes)) (settingsBytes s sum) (codeBytes * rateCount) j
+      (length-codes (totals ++ boxes) ∙ omega (arith, length-counts))
 
-  flags-back : getD rate-is 261 0 ≡ flagsOf s
+  gap-back : getD rate-is gapAt 0 ≡ 0
+  unfolding settingsBytes
+  gap-back = settings-at 0 (omega arith)
+
+  hvstep-back : getD rate-is hvstepAt 0 ≡ s .hvstep
+  unfolding settingsBytes
+  hvstep-back = settings-at 1 (omega arith)
+
+  flags-back : flagByte rate-is ≡ settingsFlags s
   unfolding settingsBytes
   flags-back = settings-at 2 (omega arith)
 
-  limhi-back : at16 rate-is 262 ≡ s .limhi
+  limhi-back : at16 rate-is limhiAt ≡ s .limhi
   unfolding settingsBytes
   limhi-back = (λ i. 256 * settings-at 3 (omega arith) i + settings-at 4 (omega arith) i) ∙ value16 (s .limhi)
 
@@ -148,116 +153,105 @@ module _ (f t : ℕ) (totals boxes : List ℕ) (s : Settings) (sum : ℕ) (v : R
   table-sum-back =
       (λ i. 65536 * settings-at 5 (omega arith) i + 256 * settings-at 6 (omega arith) i + settings-at 7 (omega arith) i) ∙ value24 sum
 
-  hvstep-back : getD rate-is 260 0 ≡ s .hvstep
-  unfolding settingsBytes
-  hvstep-back = settings-at 1 (omega arith)
-
-  gap-back : getD rate-is 259 0 ≡ 0
-  unfolding settingsBytes
-  gap-back = settings-at 0 (omega arith)
-
   pub settings-back : settingsOf rate-is ≡ s
   unfolding settingsOf
   settings-back =
+      let h = flags-le s in
+      let flag : (value x : ℕ) → settingsFlags s / value % 2 ≡ x → flagByte rate-is / value % 2 ≡ x =
+      λ value x e. ap (λ (n : ℕ). n / value % 2) flags-back ∙ e in
       λ i. record {
         limhi = limhi-back i;
-        eonly = (ap (λ (n : ℕ). isSet n 64) flags-back ∙ eonly-set s) i;
-        toferror = (ap (λ (n : ℕ). isSet n 32) flags-back ∙ toferror-set s) i;
-        junk = (ap (λ (n : ℕ). isSet n 16) flags-back ∙ junk-set s) i;
-        hv = (ap (λ (n : ℕ). isSet n 128) flags-back ∙ hv-set s) i;
+        eonly = bit-back (s .eonly) _ (flag eonlyFlag _ (omega arith)) i;
+        toferror = bit-back (s .toferror) _ (flag toferrorFlag _ (omega arith)) i;
+        junk = bit-back (s .junk) _ (flag junkFlag _ (omega arith)) i;
+        hv = bit-back (s .hv) _ (flag hvFlag _ (omega arith)) i;
         hvstep = hvstep-back i;
       }
 
-  pub rate-rates : ratesOf 124 rate-is ≡ map (λ c. leastCount (rateCode c)) (totals ++ boxes)
-  rate-rates =
-      rates-back rateApplication f t 0 rate-body rate-length (omega arith) (totals ++ boxes) (settingsBytes s sum) rate-split counts-fit 124 length-counts
-
   rate-good-back : rateGood rate-is ≡ true
-  unfolding rateGood zerosGood each
+  unfolding rateGood
   rate-good-back =
-      both (both (both (both
-      (codes-back rateApplication f t 0 rate-body rate-length (omega arith) (totals ++ boxes) (settingsBytes s sum) rate-split counts-fit 124 length-counts)
+      both (both (both (both (rate-codes .0)
       (eq-eqb _ _ gap-back))
-      (eq-eqb _ _ (ap (λ (n : ℕ). n % 16) flags-back ∙ omega arith)))
-      (le-leb (at16 rate-is 262) slotCount (omega (arith, limhi-back, v .limhi-fits))))
-      (unmarked-back rateApplication f t rate-body rate-length)
+      (eq-eqb _ _ (ap (λ (n : ℕ). n % junkFlag) flags-back ∙ omega arith)))
+      (le-leb (at16 rate-is limhiAt) slotCount (omega (arith, limhi-back, v .limhi-fits))))
+      (unmarked-back rateApplication st rate-body rate-length (omega arith) fits)
 
   pub rate-number : readNumber rate-is ≡ 0
   unfolding bodyGood
-  rate-number = number-back rateApplication f t 0 rate-body rate-length (omega arith) Rate rate-kind refl rate-good-back
+  rate-number = number-back rateApplication st rate-body rate-length (omega arith) Rate rate-kind refl rate-good-back
 
 -- ---- a sample packet
 
-module _ (f t p : ℕ) (records : List ℕ) (v : SampleValues p records) where
-  abbrev samples-are : List ℕ
-  samples-are = packetOf (sampleApplication + p) f t p (words records)
+module _ (st : Stamp) (fits : StampFits lastSample st) (records : List ℕ) (v : SampleValues records) where
+  abbrev number-is : ℕ
+  number-is = sampleApplication + st .mark
 
-  pub sample-length : length (words records) ≡ 256
+  abbrev samples-are : List ℕ
+  samples-are = packetOf number-is st (words records)
+
+  pub sample-length : length (words records) ≡ bodyBytes
   sample-length = length-sample-body records (v .records-are)
 
-  pub application-fits : sampleApplication + p < 2048
-  application-fits = omega (arith, v .p-fits)
+  pub application-fits : number-is < secondaryFlag
+  application-fits = omega (arith, fits .mark-fits)
 
-  records-back : recordsGood 64 samples-are ≡ true
+  records-back : recordsGood recordCount samples-are ≡ true
   unfolding recordsGood
   records-back =
-      each-all _ 64 (λ i h.
+      each-all _ recordCount (λ i h.
       let k : i < length records = omega (arith, v .records-are) in
-      ap recordGood (back.record-back (sampleApplication + p) f t p (words records) sample-length records refl i k)
+      ap recordGood (back.record-back number-is st (words records) sample-length records refl i k)
       ∙ all-get recordGood records 0 i k (v .records-good))
 
   sample-good-back : sampleGood samples-are ≡ true
-  unfolding sampleGood zerosGood each
+  unfolding sampleGood
   sample-good-back =
       let l = sample-length in
+      let m = back.mark-back number-is st (words records) l in
       both (both
-      (eq-eqb _ _ (back.application-back (sampleApplication + p) f t p (words records) l application-fits
-      ∙ ap (λ (n : ℕ). sampleApplication + n) (sym (back.mark-back (sampleApplication + p) f t p (words records) l))))
-      (eq-eqb _ _ (back.last-back (sampleApplication + p) f t p (words records) l)))
+      (eq-eqb _ _ (application-back number-is st (words records) l application-fits ∙ ap (λ (n : ℕ). sampleApplication + n) (sym m)))
+      (eq-eqb _ _ (last-zero number-is st (words records) l application-fits lastSample fits)))
       records-back
 
   pub sample-number : readNumber samples-are ≡ 0
   unfolding bodyGood
   sample-number =
-      number-back (sampleApplication + p) f t p (words records) sample-length application-fits Sample (sample-kind p (v .p-fits)) refl sample-good-back
+      let kind = sample-kind (st .mark) (fits .mark-fits) in
+      number-back number-is st (words records) sample-length application-fits Sample kind refl sample-good-back
 
 -- ---- a beacon packet
 
-module _ (f t : ℕ) (beacons : List ℕ) (v : BeaconValues beacons) where
+module _ (st : Stamp) (fits : StampFits 0 st) (beacons : List ℕ) (v : BeaconValues beacons) where
   abbrev beacon-body : List ℕ
   beacon-body = beaconBody beacons
 
   abbrev beacon-is : List ℕ
-  beacon-is = packetOf beaconApplication f t 0 beacon-body
+  beacon-is = packetOf beaconApplication st beacon-body
 
-  beacon-codes-length : length (codes beacons) ≡ 24
-  beacon-codes-length = length-codes beacons ∙ omega (arith, v .beacons-are)
-
-  pub beacon-length : length beacon-body ≡ 256
+  pub beacon-length : length beacon-body ≡ bodyBytes
   beacon-length = length-beacon-body beacons (v .beacons-are)
 
-  unused-back : zerosGood 35 232 beacon-is ≡ true
+  pub beacon-codes : (codesGood beaconCount beacon-is ≡ true) × (ratesOf beaconCount beacon-is ≡ map (λ c. leastCount (rateCode c)) beacons)
+  beacon-codes =
+      codes-back beaconApplication st beacon-body beacon-length (omega arith) beacons (zeros beaconUnused) refl
+      (v .beacons-fit) beaconCount (v .beacons-are)
+
+  unused-back : zerosGood beaconEnd beaconUnused beacon-is ≡ true
   unfolding zerosGood
   unused-back =
-      each-all _ 232 (λ i h.
-      let q : 35 + i ≡ 11 + (24 + i) = omega arith in
+      each-all _ beaconUnused (λ i h.
+      let q : beaconEnd + i ≡ bodyAt + (codeBytes * beaconCount + i) = omega arith in
       eq-eqb _ _ (ap (λ (n : ℕ). getD beacon-is n 0) q
-      ∙ back.body-at beaconApplication f t 0 beacon-body beacon-length (24 + i) (omega arith)
-      ∙ behind (codes beacons) (zeros 232) 24 i beacon-codes-length
-      ∙ getD-replicate 232 i 0 0 h))
-
-  pub beacon-rates : ratesOf 12 beacon-is ≡ map (λ c. leastCount (rateCode c)) beacons
-  beacon-rates =
-      rates-back beaconApplication f t 0 beacon-body beacon-length (omega arith) beacons (zeros 232) refl (v .beacons-fit) 12 (v .beacons-are)
+      ∙ back.body-at beaconApplication st beacon-body beacon-length (codeBytes * beaconCount + i) (omega arith)
+      ∙ behind (codes beacons) (zeros beaconUnused) (codeBytes * beaconCount) i (length-codes beacons ∙ omega (arith, v .beacons-are))
+      ∙ getD-replicate beaconUnused i 0 0 h))
 
   beacon-good-back : beaconGood beacon-is ≡ true
   unfolding beaconGood
   beacon-good-back =
-      both (both
-      (codes-back beaconApplication f t 0 beacon-body beacon-length (omega arith) beacons (zeros 232) refl (v .beacons-fit) 12 (v .beacons-are))
-      unused-back)
-      (unmarked-back beaconApplication f t beacon-body beacon-length)
+      both (both (beacon-codes .0) unused-back) (unmarked-back beaconApplication st beacon-body beacon-length (omega arith) fits)
 
   pub beacon-number : readNumber beacon-is ≡ 0
   unfolding bodyGood
-  beacon-number = number-back beaconApplication f t 0 beacon-body beacon-length (omega arith) Beacon beacon-kind refl beacon-good-back
+  beacon-number = number-back beaconApplication st beacon-body beacon-length (omega arith) Beacon beacon-kind refl beacon-good-back

@@ -1,133 +1,57 @@
--- Laws of the rate code. Other files go by those marked `pub`, and open no definition of specs/Rate.antt. Assumes nothing.
+-- The shift is the one that leaves twelve bits, a count's code is valid, and its least count is at most the count. Assumes nothing.
+-- Other files go by the laws marked `pub`, and open no definition of specs/Rate.antt.
 use mathlib.Core.Path.{_≡_, refl, sym, ap, _∙_}
 use mathlib.Core.Logic.{_⊎_, inl, inr, ⊎-elim}
-use mathlib.Core.Bool.{Bool, true, false, false≢true, or-true}
+use mathlib.Core.Bool.{Bool, true, false, or-true}
 use mathlib.Core.List.{map}
 use Prim.Native.Nat.{ℕ, zero, suc, _+_, _-_, _*_, _/_, _%_, _^_, _≤_, _<_}
 use native.Mathlib.Omega.{arith}
-use native.Mathlib.Nat.{pow-suc, pow-succ', div-div-eq-div-mul, div-mul-le-self, mul-div-cancel, mul-le-mul, mul-le-mul-right, mul-lt-mul-of-pos-right, le-div-iff-mul-le, div-lt-iff-lt-mul, eq-or-lt-of-le, eq-zero-or-pos}
+use native.Mathlib.Nat.{pow-succ', mul-le-mul, mul-le-mul-right, mul-lt-mul-of-pos-right, eq-or-lt-of-le}
+use native.Mathlib.Nat.{div-mul-le-self, mul-div-cancel, le-div-iff-mul-le, div-lt-iff-lt-mul}
 use lib.Pow.{pow-pos, pow-mono, pow-add}
-use lib.Dec.{ltb, leb, eqb}
+use lib.Dec.{ltb, eqb}
 use lib.Count.{leadingZeros, leading-top}
-use borrow.Author.Tests.{lt-ltb, le-ltb, ltb-true, ltb-false, leb-true, leb-false, le-leb, eqb-true}
+use borrow.Author.Tests.{lt-ltb, le-ltb, ltb-true, ltb-false, leb-true, le-leb, eqb-true}
 use Rattle.wire.proofs.Lists.{and-split, or-split}
 use Rattle.packet.specs.Rate.{countLimit, leastFrom, shift, rateCode, leastCount, codeValid, codeCases}
 
--- ---- the least number that passes a test
-
-module _ (p : ℕ → Bool) where
-  least-found : (k from : ℕ) → p from ≡ true → leastFrom p from k ≡ from
-  unfolding leastFrom
-  least-found zero from e = refl
-  least-found (suc k) from e = rw e
-
-  least-next : (k from : ℕ) → p from ≡ false → leastFrom p from (suc k) ≡ leastFrom p (suc from) k
-  unfolding leastFrom
-  least-next k from e = rw e
-
-  least-last : (from : ℕ) → leastFrom p from 0 ≡ from
-  unfolding leastFrom
-  least-last from = refl
-
-  -- it passes, where the last one does
-  passes-by : (k from : ℕ) → (p (leastFrom p (suc from) k) ≡ true) → (b : Bool) → p from ≡ b → p (leastFrom p from (suc k)) ≡ true
-  passes-by k from ih true e = rw (least-found (suc k) from e) e
-  passes-by k from ih false e = rw (least-next k from e) ih
-
-  least-passes : (k from last : ℕ) → last ≡ from + k → p last ≡ true → p (leastFrom p from k) ≡ true
-  least-passes zero from last e t =
-      let f : last ≡ from = omega arith in
-      rw (least-last from, ← f) t
-  least-passes (suc k) from last e t =
-      passes-by k from (least-passes k (suc from) last (omega arith) t) (p from) refl
-
-  -- none before it does
-  first-by : (k from j : ℕ) → (suc from ≤ j → j < leastFrom p (suc from) k → p j ≡ false)
-      → (b : Bool) → p from ≡ b → from ≤ j → j < leastFrom p from (suc k) → p j ≡ false
-  first-by k from j ih true e h l = absurd (omega (arith, least-found (suc k) from e))
-  first-by k from j ih false e h l =
-      let g : j < leastFrom p (suc from) k = omega (arith, least-next k from e) in
-      ⊎-elim (λ (q : from ≡ j). rw q at e) (λ (q : from < j). ih q g) (eq-or-lt-of-le h)
-
-  least-first : (k from j : ℕ) → from ≤ j → j < leastFrom p from k → p j ≡ false
-  least-first zero from j h l = absurd (omega (arith, least-last from))
-  least-first (suc k) from j h l = first-by k from j (λ g m. least-first k (suc from) j g m) (p from) refl h l
-
-  -- there is one such number
-  one-by : (a s : ℕ) → p a ≡ true → p s ≡ true → ((j : ℕ) → j < a → p j ≡ false) → ((j : ℕ) → j < s → p j ≡ false)
-      → (b : Bool) → ltb a s ≡ b → a ≡ s
-  one-by a s ta ts na ns true e = absurd (false≢true (sym (ns a (ltb-true a s e)) ∙ ta))
-  one-by a s ta ts na ns false e =
-      ⊎-elim (λ (q : s ≡ a). sym q) (λ (q : s < a). absurd (false≢true (sym (na s q) ∙ ts))) (eq-or-lt-of-le (ltb-false a s e))
-
 -- ---- the shift
 
-fits-at : ℕ → ℕ → Bool
-fits-at n s = ltb (n / 2 ^ s) 4096
-
--- at 12 every count below 2^24 has a quotient below 4,096
-fits-last : (n : ℕ) → n < countLimit → fits-at n 12 ≡ true
-unfolding fits-at
-fits-last n h = lt-ltb (n / 2 ^ 12) 4096 (omega arith)
-
-pub quotient-low : (n : ℕ) → n < countLimit → n / 2 ^ shift n < 4096
-unfolding shift fits-at
-quotient-low n h = ltb-true _ _ (least-passes (fits-at n) 12 0 12 refl (fits-last n h))
+-- the least number that passes a test is the one that passes it, where none before does
+least-is : (p : ℕ → Bool) (k from s : ℕ) → from ≤ s → s ≤ from + k → p s ≡ true → ((j : ℕ) → from ≤ j → j < s → p j ≡ false)
+    → leastFrom p from k ≡ s
+unfolding leastFrom
+least-is p zero from s a b t none = omega arith
+least-is p (suc k) from s a b t none =
+    ⊎-elim
+    (λ (q : from ≡ s). rw (ap p q ∙ t) q)
+    (λ (q : from < s).
+    rw (none from (omega arith) q) (least-is p k (suc from) s q (omega arith) t (λ j g l. none j (omega arith) l)))
+    (eq-or-lt-of-le a)
 
 -- "s the least with quotient < 4,096"
-pub shift-least : (n j : ℕ) → j < shift n → 4096 ≤ n / 2 ^ j
-unfolding shift fits-at
-shift-least n j h = ltb-false _ _ (least-first (fits-at n) 12 0 j (omega arith) h)
-
-shift-le-by : (n : ℕ) → n < countLimit → (b : Bool) → leb (shift n) 12 ≡ b → shift n ≤ 12
-shift-le-by n h true e = leb-true (shift n) 12 e
-shift-le-by n h false e = absurd (omega (arith, shift-least n 12 (leb-false (shift n) 12 e)))
-
-pub shift-le : (n : ℕ) → n < countLimit → shift n ≤ 12
-shift-le n h = shift-le-by n h (leb (shift n) 12) refl
-
--- the shift is the one with which the quotient is below 4,096, and with none before
-shift-is : (n s : ℕ) → n < countLimit → n / 2 ^ s < 4096 → ((j : ℕ) → j < s → 4096 ≤ n / 2 ^ j) → shift n ≡ s
-unfolding fits-at
+shift-is : (n s : ℕ) → s ≤ 12 → n / 2 ^ s < 4096 → ((j : ℕ) → j < s → 4096 ≤ n / 2 ^ j) → shift n ≡ s
+unfolding shift
 shift-is n s h q none =
-    one-by (fits-at n) (shift n) s (lt-ltb _ _ (quotient-low n h)) (lt-ltb _ _ q) (λ j l. le-ltb _ _ (shift-least n j l)) (λ j l. le-ltb _ _ (none j l))
-    (ltb (shift n) s) refl
+    least-is _ 12 0 s (omega arith) (omega arith) (lt-ltb _ _ q) (λ j g l. le-ltb _ _ (none j l))
 
 shift-low : (n : ℕ) → n < 4096 → shift n ≡ 0
 shift-low n h = shift-is n 0 (omega arith) (omega arith) (λ j l. absurd (omega arith))
 
 -- a count of s + 12 bits has the shift s
-shift-bits : (n s : ℕ) → n < countLimit → 2048 * 2 ^ s ≤ n → n < 4096 * 2 ^ s → shift n ≡ s
+shift-bits : (n s : ℕ) → s ≤ 12 → 2048 * 2 ^ s ≤ n → n < 4096 * 2 ^ s → shift n ≡ s
 shift-bits n s h a b =
     shift-is n s h (div-lt-iff-lt-mul (pow-pos s) .1 b) (λ j l.
     let m : 2 ^ suc j ≤ 2 ^ s = pow-mono l in
-    le-div-iff-mul-le (pow-pos j) .1 (omega arith))
-
--- halving once more
-half : (n j : ℕ) → n / 2 ^ suc j ≡ n / 2 ^ j / 2
-half n j = ap (λ (d : ℕ). n / d) (pow-suc 2 j) ∙ sym (div-div-eq-div-mul n (2 ^ j) 2)
-
--- where the shift is not 0 the quotient has twelve bits
-quotient-high : (n s : ℕ) → shift n ≡ s → 0 < s → 2048 ≤ n / 2 ^ s
-quotient-high n zero e h = absurd (omega arith)
-quotient-high n (suc j) e h = omega (arith, half n j, shift-least n j (omega arith))
-
--- ---- the code
-
-pub code-low : (n : ℕ) → n < 4096 → rateCode n ≡ n
-unfolding rateCode
-code-low n h = rw (shift-low n h) (omega arith)
-
-code-bits : (n s : ℕ) → n < countLimit → 2048 * 2 ^ s ≤ n → n < 4096 * 2 ^ s → rateCode n ≡ 4096 * s + n / 2 ^ s
-unfolding rateCode
-code-bits n s h a b = rw (shift-bits n s h a b)
+    le-div-iff-mul-le (pow-pos j) .1 (omega (arith, pow-succ' 2 j)))
 
 -- a count from 4,096 on, by the zeros above its highest bit
 pub record Bits (n z : ℕ) : Type 0 where
   pub room : z ≤ 20
+  pub small : 20 - z ≤ 12
   pub low : n / 2 ^ (20 - z) < 4096
-  pub shift-low : 20 - z ≤ 12
-  pub code : rateCode n ≡ 4096 * (20 - z) + n / 2 ^ (20 - z)
+  pub high : 2048 ≤ n / 2 ^ (20 - z)
+  pub shifted : shift n ≡ 20 - z
 
 order-by : (i j : ℕ) → 2 ^ i < 2 ^ j → (b : Bool) → ltb i j ≡ b → i < j
 order-by i j h true e = ltb-true i j e
@@ -143,14 +67,15 @@ bits-at n z j h g e a b =
     let k : j < 24 = order j 24 (omega arith) in
     let s : ℕ = 20 - z in
     let js : 11 + s ≡ j = omega arith in
-    let p : 2 ^ (11 + s) ≡ 2048 * 2 ^ s = pow-add 2 11 s in
-    let pj : 2 ^ j ≡ 2048 * 2 ^ s = ap (λ (i : ℕ). 2 ^ i) (sym js) ∙ p in
+    let pj : 2 ^ j ≡ 2048 * 2 ^ s = ap (λ (i : ℕ). 2 ^ i) (sym js) ∙ pow-add 2 11 s in
+    let lo : 2048 * 2 ^ s ≤ n = omega arith in
     let hi : n < 4096 * 2 ^ s = omega (arith, pow-succ' 2 j) in
     record {
       room = omega arith;
+      small = omega arith;
       low = div-lt-iff-lt-mul (pow-pos s) .1 hi;
-      shift-low = omega arith;
-      code = code-bits n s h (omega arith) hi;
+      high = le-div-iff-mul-le (pow-pos s) .1 lo;
+      shifted = shift-bits n s (omega arith) lo hi;
     }
 
 pub bits : (n : ℕ) → n < countLimit → 4096 ≤ n → Bits n (leadingZeros 32 n)
@@ -158,29 +83,58 @@ bits n h g =
     let t = leading-top 32 n (omega arith) (omega arith) in
     bits-at n (leadingZeros 32 n) (t .0) h g (t .1) (t .2) (t .3)
 
+-- any count's shift, and its quotient, which has twelve bits where the shift is not 0
+record Shifted (n : ℕ) : Type 0 where
+  small : shift n ≤ 12
+  low : n / 2 ^ shift n < 4096
+  high : (shift n ≡ 0) ⊎ (2048 ≤ n / 2 ^ shift n)
+
+shifted-by : (n : ℕ) → n < countLimit → (b : Bool) → ltb n 4096 ≡ b → Shifted n
+shifted-by n h true q =
+    let e : shift n ≡ 0 = shift-low n (ltb-true n 4096 q) in
+    record { small = rw e (omega arith); low = rw e (omega (arith, ltb-true n 4096 q)); high = inl e }
+shifted-by n h false q =
+    let t = bits n h (ltb-false n 4096 q) in
+    let e = t .shifted in
+    record { small = rw e (t .small); low = rw e (t .low); high = inr (rw e (t .high)) }
+
+shifted : (n : ℕ) → n < countLimit → Shifted n
+shifted n h = shifted-by n h (ltb n 4096) refl
+
+-- ---- the code
+
+pub code-low : (n : ℕ) → n < 4096 → rateCode n ≡ n
+unfolding rateCode
+code-low n h = rw (shift-low n h) (omega arith)
+
+pub code-bits : (n z : ℕ) → Bits n z → rateCode n ≡ 4096 * (20 - z) + n / 2 ^ (20 - z)
+unfolding rateCode
+code-bits n z t = rw (t .shifted)
+
 -- the two parts of a code
 code-shift : (n : ℕ) → n < countLimit → rateCode n / 4096 ≡ shift n
 unfolding rateCode
-code-shift n h = omega (arith, quotient-low n h)
+code-shift n h = omega (arith, shifted n h .low)
 
 code-quotient : (n : ℕ) → n < countLimit → rateCode n % 4096 ≡ n / 2 ^ shift n
 unfolding rateCode
-code-quotient n h = omega (arith, quotient-low n h)
+code-quotient n h = omega (arith, shifted n h .low)
 
 -- a code fits 16 bits
 pub code-fits : (n : ℕ) → n < countLimit → rateCode n < 65536
 unfolding rateCode
-code-fits n h = omega (arith, quotient-low n h, shift-le n h)
-
-valid-by : (n : ℕ) → n < countLimit → (shift n ≡ 0) ⊎ (0 < shift n) → codeValid (rateCode n) ≡ true
-unfolding codeValid
-valid-by n h (inl e) = rw (code-shift n h, e)
-valid-by n h (inr g) =
-    rw (code-shift n h, code-quotient n h, le-leb (shift n) 12 (shift-le n h), le-leb _ _ (quotient-high n (shift n) refl g)) (or-true (eqb (shift n) 0))
+code-fits n h = omega (arith, shifted n h)
 
 -- what counts have are valid codes
 pub code-valid : (n : ℕ) → n < countLimit → codeValid (rateCode n) ≡ true
-code-valid n h = valid-by n h (eq-zero-or-pos (shift n))
+unfolding codeValid
+code-valid n h =
+    let t = shifted n h in
+    rw (code-shift n h, code-quotient n h, le-leb (shift n) 12 (t .small))
+    (⊎-elim
+    (λ (e : shift n ≡ 0). rw e)
+    (λ (g : 2048 ≤ n / 2 ^ shift n). rw (le-leb _ _ g) (or-true (eqb (shift n) 0)))
+    (t .high))
 
 -- the least count of a count's code is at most the count
 pub least-le : (n : ℕ) → n < countLimit → leastCount (rateCode n) ≤ n
@@ -215,7 +169,7 @@ shift-again c h (inl e) = rw e (shift-low _ (omega arith))
 shift-again c h (inr g) =
     let s : ℕ = c / 4096 in
     let q : c % 4096 < 4096 = omega arith in
-    shift-bits (c % 4096 * 2 ^ s) s (least-below c h) (mul-le-mul-right (2 ^ s) g) (mul-lt-mul-of-pos-right q (pow-pos s))
+    shift-bits (c % 4096 * 2 ^ s) s (parts c h .small) (mul-le-mul-right (2 ^ s) g) (mul-lt-mul-of-pos-right q (pow-pos s))
 
 -- a valid code is that of its least count
 pub valid-again : (c : ℕ) → codeValid c ≡ true → rateCode (leastCount c) ≡ c

@@ -1,4 +1,4 @@
--- Laws of the packets' lengths, and of a packet written piece by piece. Assumes nothing.
+-- The packets' lengths, and that header, body, trailer and sum, put one behind the other, are the packet. Assumes nothing.
 use mathlib.Core.Path.{_≡_, refl, sym, ap, _∙_}
 use mathlib.Core.List.{List, _++_, append-nil}
 use Prim.Native.Nat.{ℕ, _+_, _*_, _%_, _≤_, _<_}
@@ -6,20 +6,24 @@ use native.Mathlib.Omega.{arith}
 use lib.ListN.{length, take, getD, length-append, drop-of-length-le}
 use Rattle.wire.specs.Bytes.{put, one, total, words, be16, zeros}
 use Rattle.wire.proofs.Bytes.{then, take-put, length-put, length-words}
-use Rattle.settings.specs.declared.Settings.{Settings}
-use Rattle.packet.specs.Rate.{rateCode}
-use Rattle.packet.specs.Packet.{rateApplication, sampleApplication, beaconApplication, header, trailer, summed, packetOf, codes, settingsBytes, rateBody, beaconBody, ratePacket, samplePacket, beaconPacket}
 use Rattle.wire.proofs.Pieces.{runs-append, runs-take, length-runs, length-runs-take}
+use Rattle.settings.specs.declared.Settings.{Settings}
+use Rattle.packet.specs.declared.stamp.Stamp.{Stamp}
+use Rattle.packet.specs.Rate.{rateCode}
+use Rattle.packet.specs.Layout.{applicationAt, bodyAt, innerBytes, sumAt, packetBytes, bodyBytes, frameAt}
+use Rattle.packet.specs.Layout.{totalCount, boxCount, recordCount, beaconCount, beaconUnused}
+use Rattle.packet.specs.Packet.{rateApplication, sampleApplication, beaconApplication, header, summed, enveloped, trailer, packetOf}
+use Rattle.packet.specs.Packet.{codes, settingsBytes, rateBody, beaconBody, ratePacket, samplePacket, beaconPacket}
 
-pub length-header : (a f t : ℕ) → length (header a f t) ≡ 11
+pub length-header : (a q t : ℕ) → length (header a q t) ≡ bodyAt
 unfolding header
-length-header a f t = refl
+length-header a q t = refl
 
-pub length-trailer : (f m : ℕ) → length (trailer f m) ≡ 4
+length-trailer : (st : Stamp) → length (trailer st) ≡ 4
 unfolding trailer
-length-trailer f m = refl
+length-trailer st = refl
 
-pub length-settings : (s : Settings) (sum : ℕ) → length (settingsBytes s sum) ≡ 8
+length-settings : (s : Settings) (sum : ℕ) → length (settingsBytes s sum) ≡ 8
 unfolding settingsBytes
 length-settings s sum = refl
 
@@ -40,69 +44,76 @@ pub codes-take : (ns : List ℕ) (i : ℕ) → i < length ns → codes (take (i 
 unfolding codes
 codes-take ns i h = runs-take (λ n. be16 (rateCode n)) ns i h
 
-pub length-summed : (xs : List ℕ) (n : ℕ) → length xs ≡ n → length (summed xs) ≡ n + 1
-unfolding summed
-length-summed xs n h = length-append xs (one (total xs % 256)) ∙ omega arith
+-- ---- header and sum around 260 bytes of any kind
 
-pub length-inner : (a f t m : ℕ) (body : List ℕ) → length body ≡ 256 → length (header a f t ++ body ++ trailer f m) ≡ 271
-length-inner a f t m body h =
-    simp (length-append, length-header, length-trailer) (omega arith)
+pub length-summand : (a q t : ℕ) (inner : List ℕ) → length inner ≡ innerBytes → length (header a q t ++ inner) ≡ sumAt
+length-summand a q t inner h = simp (length-append, length-header) (omega arith)
 
-pub length-packet : (a f t m : ℕ) (body : List ℕ) → length body ≡ 256 → length (packetOf a f t m body) ≡ 272
-unfolding packetOf
-length-packet a f t m body h = length-summed _ 271 (length-inner a f t m body h)
+pub length-enveloped : (a q t : ℕ) (inner : List ℕ) → length inner ≡ innerBytes → length (enveloped a q t inner) ≡ packetBytes
+unfolding enveloped summed
+length-enveloped a q t inner h =
+    length-append (header a q t ++ inner) _ ∙ omega (arith, length-summand a q t inner h)
 
--- ---- the three packets' bodies have 256 bytes, and they 272
+-- what is put behind all else is the end
+pub sum-written : {z : List ℕ} (y : List ℕ) (v : ℕ) → length y ≡ packetBytes → z ≡ put y sumAt (one v) → v ≡ total (take sumAt y) % 256
+    → z ≡ summed (take sumAt y)
+unfolding summed put
+sum-written {z} y v l e ev =
+    let none : length y ≤ sumAt + 1 = omega arith in
+    e
+    ∙ ap (λ (r : List ℕ). take sumAt y ++ one v ++ r) (drop-of-length-le y none)
+    ∙ append-nil (take sumAt y ++ one v)
+    ∙ ap (λ (n : ℕ). take sumAt y ++ one n) ev
 
-module _ (totals boxes : List ℕ) (s : Settings) (sum : ℕ) (lt : length totals ≡ 8) (lb : length boxes ≡ 116) where
-  pub length-rate-body : length (rateBody totals boxes s sum) ≡ 256
-  length-rate-body =
-      length-append (codes totals ++ codes boxes) (settingsBytes s sum)
-      ∙ omega (arith, length-append (codes totals) (codes boxes), length-codes totals, length-codes boxes, length-settings s sum)
+module _ {x y z : List ℕ} (xs : List ℕ) (lx : length xs ≡ packetBytes) (a : ℕ) where
+  pub envelope-written : (q t : ℕ) (inner : List ℕ) → length inner ≡ innerBytes → x ≡ put xs applicationAt (header a q t)
+      → y ≡ put x bodyAt inner → z ≡ summed (take sumAt y) → z ≡ enveloped a q t inner
+  unfolding enveloped
+  envelope-written q t inner li ex ey ez =
+      let H : List ℕ = header a q t in
+      let e : y ≡ put xs 0 (H ++ inner) = then xs 0 H inner bodyAt ex ey (omega (arith, length-header a q t)) (omega arith) in
+      ez ∙ ap summed (ap (take sumAt) e ∙ take-put (H ++ inner) xs 0 sumAt (omega (arith, length-summand a q t inner li)) (omega arith))
 
-  pub length-rate : (f t : ℕ) → length (ratePacket f t totals boxes s sum) ≡ 272
-  unfolding ratePacket
-  length-rate f t = length-packet rateApplication f t 0 (rateBody totals boxes s sum) length-rate-body
+-- ---- rate, sample and beacon packets
 
-pub length-sample-body : (records : List ℕ) → length records ≡ 64 → length (words records) ≡ 256
+pub length-inner : (st : Stamp) (body : List ℕ) → length body ≡ bodyBytes → length (body ++ trailer st) ≡ innerBytes
+length-inner st body h = simp (length-append, length-trailer) (omega arith)
+
+pub length-packet : (a : ℕ) (st : Stamp) (body : List ℕ) → length body ≡ bodyBytes → length (packetOf a st body) ≡ packetBytes
+length-packet a st body h = length-enveloped a _ _ _ (length-inner st body h)
+
+pub packet-written : {x y w z : List ℕ} (xs : List ℕ) (a : ℕ) (st : Stamp) (body : List ℕ)
+    → length xs ≡ packetBytes → length body ≡ bodyBytes
+    → x ≡ put xs applicationAt (header a (st .sequence) (st .time)) → y ≡ put x bodyAt body → w ≡ put y frameAt (trailer st)
+    → z ≡ summed (take sumAt w) → z ≡ packetOf a st body
+packet-written {x} xs a st body lx lb ex ey ew ez =
+    let H : List ℕ = header a (st .sequence) (st .time) in
+    let l : length x ≡ packetBytes =
+    ap length ex ∙ length-put H xs 0 (omega (arith, length-header a (st .sequence) (st .time))) ∙ lx in
+    envelope-written xs lx a _ _ (body ++ trailer st) (length-inner st body lb) ex
+    (then x bodyAt body (trailer st) frameAt ey ew (omega arith) (omega arith))
+    ez
+
+pub length-rate-body : (totals boxes : List ℕ) (s : Settings) (sum : ℕ) → length totals ≡ totalCount → length boxes ≡ boxCount
+    → length (rateBody totals boxes s sum) ≡ bodyBytes
+length-rate-body totals boxes s sum lt lb = simp (length-append, length-codes, length-settings) (omega arith)
+
+pub length-rate : (st : Stamp) (totals boxes : List ℕ) (s : Settings) (sum : ℕ) → length totals ≡ totalCount → length boxes ≡ boxCount
+    → length (ratePacket st totals boxes s sum) ≡ packetBytes
+unfolding ratePacket
+length-rate st totals boxes s sum lt lb =
+    length-packet rateApplication st (rateBody totals boxes s sum) (length-rate-body totals boxes s sum lt lb)
+
+pub length-sample-body : (records : List ℕ) → length records ≡ recordCount → length (words records) ≡ bodyBytes
 length-sample-body records h = length-words records ∙ omega arith
 
-pub length-sample : (f t p : ℕ) (records : List ℕ) → length records ≡ 64 → length (samplePacket f t p records) ≡ 272
+pub length-sample : (st : Stamp) (records : List ℕ) → length records ≡ recordCount → length (samplePacket st records) ≡ packetBytes
 unfolding samplePacket
-length-sample f t p records h = length-packet (sampleApplication + p) f t p (words records) (length-sample-body records h)
+length-sample st records h = length-packet (sampleApplication + st .mark) st (words records) (length-sample-body records h)
 
-pub length-beacon-body : (beacons : List ℕ) → length beacons ≡ 12 → length (beaconBody beacons) ≡ 256
-length-beacon-body beacons h = length-append (codes beacons) (zeros 232) ∙ omega (arith, length-codes beacons)
+pub length-beacon-body : (beacons : List ℕ) → length beacons ≡ beaconCount → length (beaconBody beacons) ≡ bodyBytes
+length-beacon-body beacons h = length-append (codes beacons) (zeros beaconUnused) ∙ omega (arith, length-codes beacons)
 
-pub length-beacon : (f t : ℕ) (beacons : List ℕ) → length beacons ≡ 12 → length (beaconPacket f t beacons) ≡ 272
+pub length-beacon : (st : Stamp) (beacons : List ℕ) → length beacons ≡ beaconCount → length (beaconPacket st beacons) ≡ packetBytes
 unfolding beaconPacket
-length-beacon f t beacons h = length-packet beaconApplication f t 0 (beaconBody beacons) (length-beacon-body beacons h)
-
--- ---- a packet written piece by piece
-
--- what is put at the end
-pub put-end : (xs vs : List ℕ) (n : ℕ) → n + length vs ≡ length xs → put xs n vs ≡ take n xs ++ vs
-unfolding put
-put-end xs vs n h =
-    let k : length xs ≤ n + length vs = omega arith in
-    ap (λ (l : List ℕ). take n xs ++ vs ++ l) (drop-of-length-le xs k) ∙ append-nil (take n xs ++ vs)
-
--- a tail behind the bytes before it, and the sum of all these
-pub ended : {y z : List ℕ} (xs tail : List ℕ) (v : ℕ) → length xs ≡ 272 → length tail ≡ 4 → y ≡ put xs 267 tail → z ≡ put y 271 (one v)
-    → v ≡ total (take 271 y) % 256 → z ≡ summed (take 267 xs ++ tail)
-unfolding summed
-ended {y} {z} xs tail v lx lt ey ez ev =
-    let t : take 271 y ≡ take 267 xs ++ tail = ap (take 271) ey ∙ take-put tail xs 267 271 (omega arith) (omega arith) in
-    let ly : length y ≡ 272 = ap length ey ∙ length-put tail xs 267 (omega arith) ∙ lx in
-    ez ∙ put-end y (one v) 271 (omega arith) ∙ (λ i. t i ++ one (ev i)) ∙ ap (λ (l : List ℕ). take 267 xs ++ tail ++ one (total l % 256)) t
-
--- the header and the body in their place, and what comes behind them
-pub written : {x y z : List ℕ} (xs : List ℕ) (a f t m : ℕ) (body : List ℕ) → length xs ≡ 272 → length body ≡ 256
-    → x ≡ put xs 0 (header a f t) → y ≡ put x 11 body → z ≡ summed (take 267 y ++ trailer f m) → z ≡ packetOf a f t m body
-unfolding packetOf
-written {x} {y} {z} xs a f t m body lx lb ex ey ez =
-    let H : List ℕ = header a f t in
-    let lh : length H ≡ 11 = length-header a f t in
-    let e : y ≡ put xs 0 (H ++ body) = then xs 0 H body 11 ex ey (omega arith) (omega arith) in
-    let k : take 267 y ≡ H ++ body = ap (take 267) e ∙ take-put (H ++ body) xs 0 267 (omega (arith, length-append H body)) (omega arith) in
-    ez ∙ ap (λ (l : List ℕ). summed (l ++ trailer f m)) k
+length-beacon st beacons h = length-packet beaconApplication st (beaconBody beacons) (length-beacon-body beacons h)

@@ -1,3 +1,4 @@
+pub mod Layout
 pub mod Rate
 pub mod Packet
 pub mod TableSum

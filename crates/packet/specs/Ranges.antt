@@ -7,33 +7,37 @@ use lib.ListN.{length}
 use Rattle.wire.specs.Lists.{EachBelow, all}
 use Rattle.settings.specs.declared.Settings.{Settings}
 use Rattle.settings.specs.Settings.{slotCount}
+use Rattle.sample_record.specs.Record.{recordGood}
+use Rattle.packet.specs.declared.stamp.Stamp.{Stamp}
 use Rattle.packet.specs.Rate.{countLimit}
-use Rattle.packet.specs.Packet.{lastSample}
-use Rattle.packet.specs.Read.{recordGood}
+use Rattle.packet.specs.Layout.{sequenceCounts, totalCount, boxCount, recordCount, beaconCount}
 
--- the frame number has 16 bits, the time 32
-pub record Stamp (frame time : ℕ) : Type 0 where
-  pub frame-fits : frame < 65536
-  pub time-fits : time < 4294967296
+-- the sequence count has 14 bits, the time 32, the frame number 16; byte 269 goes to `marks`, which is 0 but in a sample packet;
+-- byte 270 is zero
+pub record StampFits (marks : ℕ) (stamp : Stamp) : Type 0 where
+  pub sequence-fits : stamp .sequence < sequenceCounts
+  pub time-fits : stamp .time < 4294967296
+  pub frame-fits : stamp .frame < 65536
+  pub mark-fits : stamp .mark ≤ marks
+  pub last-is : stamp .last ≡ 0
 
 -- eight totals and 116 boxes that have codes, settings in their ranges, a sum modulo 2^24
 pub record RateValues (totals boxes : List ℕ) (s : Settings) (sum : ℕ) : Type 0 where
-  pub totals-are : length totals ≡ 8
-  pub boxes-are : length boxes ≡ 116
+  pub totals-are : length totals ≡ totalCount
+  pub boxes-are : length boxes ≡ boxCount
   pub totals-fit : EachBelow countLimit totals
   pub boxes-fit : EachBelow countLimit boxes
   pub limhi-fits : s .limhi ≤ slotCount
   pub hvstep-fits : s .hvstep < 256
   pub sum-fits : sum < 16777216
 
--- p 0 to 10, and 64 records of 32 bits, each "zero or of box 6 to 116"
-pub record SampleValues (p : ℕ) (records : List ℕ) : Type 0 where
-  pub p-fits : p ≤ lastSample
-  pub records-are : length records ≡ 64
+-- 64 records of 32 bits, each "zero or of box 6 to 116"
+pub record SampleValues (records : List ℕ) : Type 0 where
+  pub records-are : length records ≡ recordCount
   pub records-fit : EachBelow 4294967296 records
   pub records-good : all recordGood records ≡ true
 
 -- twelve beacons that have codes
 pub record BeaconValues (beacons : List ℕ) : Type 0 where
-  pub beacons-are : length beacons ≡ 12
+  pub beacons-are : length beacons ≡ beaconCount
   pub beacons-fit : EachBelow countLimit beacons

@@ -1,5 +1,6 @@
 -- The rate code (document 01, "Packets"). Assumes nothing.
--- Its laws are in proofs/Codes.antt: other files go by those alone, so that another edition of the code changes these two files and src/rate.rt.
+-- Its laws are in proofs/Codes.antt: other files go by those alone, so that another edition of the code changes these two files
+-- and src/rate.rt.
 use Prim.Native.Nat.{ℕ, zero, suc, _+_, _*_, _/_, _%_, _^_}
 use mathlib.Core.Bool.{Bool, cond, _&&_, _||_}
 use mathlib.Core.List.{List, [], _∷_}

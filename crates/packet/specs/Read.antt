@@ -1,36 +1,48 @@
 -- What a reader finds in a packet, and the number with which it refuses one (document 01, "Packets" and "Causes and their numbers").
 -- Assumes nothing.
 use Prim.Native.Nat.{ℕ, _+_, _*_, _/_, _%_}
-use mathlib.Core.Bool.{Bool, true, false, cond, _&&_, _||_}
-use mathlib.Core.List.{List}
+use mathlib.Core.Bool.{Bool, true, false, cond, _&&_}
+use mathlib.Core.List.{List, [], _∷_}
 use lib.Dec.{leb, eqb}
 use lib.ListN.{length, take, getD}
+use Rattle.causes.specs.Causes.{noHeader, packetSum, bodyFault}
+use Rattle.causes.specs.Checks.{Check, numberBy}
+use Rattle.wire.specs.Bits.{isSet}
 use Rattle.wire.specs.Bytes.{at16, at24, at32, total}
+use Rattle.wire.specs.Pieces.{table, each}
 use Rattle.settings.specs.declared.Settings.{Settings}
 use Rattle.settings.specs.Settings.{slotCount}
+use Rattle.sample_record.specs.Record.{recordGood}
 use Rattle.packet.specs.Rate.{leastCount, codeValid}
-use Rattle.wire.specs.Pieces.{table, each}
-use Rattle.packet.specs.Packet.{packetBytes, rateApplication, sampleApplication, beaconApplication, lastSample}
+use Rattle.packet.specs.Layout.{applicationAt, sequenceAt, lengthAt, timeAt, zeroAt, bodyAt, sumAt, packetBytes}
+use Rattle.packet.specs.Layout.{frameAt, markAt, lastAt}
+use Rattle.packet.specs.Layout.{secondaryFlag, sequenceFlags, sequenceCounts, lengthField}
+use Rattle.packet.specs.Layout.{codeBytes, recordBytes, rateCount, recordCount, beaconCount, beaconEnd, beaconUnused}
+use Rattle.packet.specs.Layout.{gapAt, hvstepAt, flagsAt, limhiAt, tableSumAt, hvFlag, eonlyFlag, toferrorFlag, junkFlag}
+use Rattle.packet.specs.Packet.{rateApplication, sampleApplication, beaconApplication, lastSample}
 use Rattle.packet.specs.declared.kind.Kind.{Kind}
 use Rattle.packet.specs.declared.kind.Kind.the-variants.{Rate, Sample, Beacon, None}
 
 -- ---- the fields
 
--- the application number, the sequence count, the time, the frame, and byte 269
 abbrev pub applicationOf : List ℕ → ℕ
-applicationOf xs = at16 xs 0 % 2048
+applicationOf xs = at16 xs applicationAt % secondaryFlag
 
 abbrev pub sequenceOf : List ℕ → ℕ
-sequenceOf xs = at16 xs 2 % 16384
+sequenceOf xs = at16 xs sequenceAt % sequenceCounts
 
 abbrev pub timeOf : List ℕ → ℕ
-timeOf xs = at32 xs 6
+timeOf xs = at32 xs timeAt
 
 abbrev pub frameOf : List ℕ → ℕ
-frameOf xs = at16 xs 267
+frameOf xs = at16 xs frameAt
 
+-- bytes 269 and 270
 abbrev pub markOf : List ℕ → ℕ
-markOf xs = getD xs 269 0
+markOf xs = getD xs markAt 0
+
+abbrev pub lastOf : List ℕ → ℕ
+lastOf xs = getD xs lastAt 0
 
 -- "rate (application number 605), samples 606 to 616, beacon 624"
 unfoldable pub kindOf : ℕ → Kind
@@ -46,50 +58,47 @@ isKind Sample = true
 isKind Beacon = true
 isKind None = false
 
--- code i of those from byte 11 on
+-- code i, and record i, of those that the body begins with
 abbrev pub codeAt : List ℕ → ℕ → ℕ
-codeAt xs i = at16 xs (11 + 2 * i)
+codeAt xs i = at16 xs (bodyAt + codeBytes * i)
 
--- record i of those from byte 11 on
 abbrev pub recordAt : List ℕ → ℕ → ℕ
-recordAt xs i = at32 xs (11 + 4 * i)
+recordAt xs i = at32 xs (bodyAt + recordBytes * i)
 
 -- the least counts of the first n codes
 unfoldable pub ratesOf : ℕ → List ℕ → List ℕ
 ratesOf n xs = table n (λ i. leastCount (codeAt xs i))
 
--- whether the bit with the value v is set in the byte
-abbrev pub isSet : ℕ → ℕ → Bool
-isSet byte v = eqb (byte / v % 2) 1
+abbrev pub flagByte : List ℕ → ℕ
+flagByte xs = getD xs flagsAt 0
 
 -- "260 hvstep, 261 hv 128 + Eonly 64 + toferror 32 + junk 16, 262-263 LIMHI"
 unfoldable pub settingsOf : List ℕ → Settings
 settingsOf xs =
     record {
-      limhi = at16 xs 262;
-      eonly = isSet (getD xs 261 0) 64;
-      toferror = isSet (getD xs 261 0) 32;
-      junk = isSet (getD xs 261 0) 16;
-      hv = isSet (getD xs 261 0) 128;
-      hvstep = getD xs 260 0;
+      limhi = at16 xs limhiAt;
+      eonly = isSet (flagByte xs) eonlyFlag;
+      toferror = isSet (flagByte xs) toferrorFlag;
+      junk = isSet (flagByte xs) junkFlag;
+      hv = isSet (flagByte xs) hvFlag;
+      hvstep = getD xs hvstepAt 0;
     }
 
 -- "264-266 sum of all table words modulo 2^24"
 abbrev pub sumOf : List ℕ → ℕ
-sumOf xs = at24 xs 264
+sumOf xs = at24 xs tableSumAt
 
 -- ---- 11: "packet not 272 bytes, or no header above (any sequence count passes)"
 
 -- "version 0, type 0, secondary flag 1, sequence flags 3, .. length 265; then time (4 bytes) and a zero", and a number of a kind
 unfoldable pub fieldsGood : List ℕ → Bool
 fieldsGood xs =
-    eqb (at16 xs 0 / 2048) 1
-    && eqb (at16 xs 2 / 16384) 3
-    && eqb (at16 xs 4) 265
-    && eqb (getD xs 10 0) 0
+    eqb (at16 xs applicationAt / secondaryFlag) 1
+    && eqb (at16 xs sequenceAt / sequenceCounts) sequenceFlags
+    && eqb (at16 xs lengthAt) lengthField
+    && eqb (getD xs zeroAt 0) 0
     && isKind (kindOf (applicationOf xs))
 
--- 11 where this fails
 unfoldable pub headerGood : List ℕ → Bool
 headerGood xs = eqb (length xs) packetBytes && fieldsGood xs
 
@@ -97,7 +106,7 @@ headerGood xs = eqb (length xs) packetBytes && fieldsGood xs
 
 -- "Byte 271 is the sum of bytes 0 to 270 modulo 256"
 unfoldable pub sumGood : List ℕ → Bool
-sumGood xs = eqb (getD xs 271 0) (total (take 271 xs) % 256)
+sumGood xs = eqb (getD xs sumAt 0) (total (take sumAt xs) % 256)
 
 -- ---- 13: "packet body with a fault"
 
@@ -109,36 +118,32 @@ codesGood n xs = each n (λ i. codeValid (codeAt xs i))
 unfoldable pub zerosGood : ℕ → ℕ → List ℕ → Bool
 zerosGood at n xs = each n (λ i. eqb (getD xs (at + i) 0) 0)
 
--- a record's box: "Record from bit 31 down: .. box 7, priority"
-abbrev pub boxOf : ℕ → ℕ
-boxOf w = w / 2 % 128
-
--- not a "non-zero record with box outside 6 to 116"
-abbrev pub recordGood : ℕ → Bool
-recordGood w = eqb w 0 || (leb 6 (boxOf w) && leb (boxOf w) 116)
-
--- none such among the first n
+-- no "non-zero record with box outside 6 to 116" among the first n
 unfoldable pub recordsGood : ℕ → List ℕ → Bool
 recordsGood n xs = each n (λ i. recordGood (recordAt xs i))
 
--- bytes 259, 269, 270 and the low four bits of 261 have no use in a rate packet; "LIMHI over 704" is a fault
+-- bytes 269 and 270 have no use but p's
+abbrev pub unmarked : List ℕ → Bool
+unmarked xs = eqb (markOf xs) 0 && eqb (lastOf xs) 0
+
+-- byte 259 and the flags below junk's have no use in a rate packet; "LIMHI over 704" is a fault
 unfoldable pub rateGood : List ℕ → Bool
 rateGood xs =
-    codesGood 124 xs
-    && zerosGood 259 1 xs
-    && eqb (getD xs 261 0 % 16) 0
-    && leb (at16 xs 262) slotCount
-    && zerosGood 269 2 xs
+    codesGood rateCount xs
+    && eqb (getD xs gapAt 0) 0
+    && eqb (flagByte xs % junkFlag) 0
+    && leb (at16 xs limhiAt) slotCount
+    && unmarked xs
 
 -- "application number other than 606 + p" is a fault; byte 270 has no use
 unfoldable pub sampleGood : List ℕ → Bool
-sampleGood xs = eqb (applicationOf xs) (sampleApplication + markOf xs) && zerosGood 270 1 xs && recordsGood 64 xs
+sampleGood xs =
+    eqb (applicationOf xs) (sampleApplication + markOf xs) && eqb (lastOf xs) 0 && recordsGood recordCount xs
 
--- bytes 35 to 266, 269 and 270 have no use
+-- bytes 35 to 266 have no use
 unfoldable pub beaconGood : List ℕ → Bool
-beaconGood xs = codesGood 12 xs && zerosGood 35 232 xs && zerosGood 269 2 xs
+beaconGood xs = codesGood beaconCount xs && zerosGood beaconEnd beaconUnused xs && unmarked xs
 
--- 13 where this fails
 unfoldable pub bodyGood : Kind → List ℕ → Bool
 bodyGood Rate xs = rateGood xs
 bodyGood Sample xs = sampleGood xs
@@ -147,7 +152,11 @@ bodyGood None xs = false
 
 -- ---- the number
 
+-- the tests in their order, each with its number
+abbrev pub readChecks : List ℕ → List Check
+readChecks xs =
+    (headerGood xs, noHeader) ∷ (sumGood xs, packetSum) ∷ (bodyGood (kindOf (applicationOf xs)) xs, bodyFault) ∷ []
+
 -- "A call that is carried out answers 0; otherwise the lowest number that applies is given"
 unfoldable pub readNumber : List ℕ → ℕ
-readNumber xs =
-    cond (headerGood xs) (cond (sumGood xs) (cond (bodyGood (kindOf (applicationOf xs)) xs) 0 13) 12) 11
+readNumber xs = numberBy (readChecks xs)

@@ -2,31 +2,27 @@
 ghost use mathlib.Core.Path.{_≡_};
 ghost use Prim.Native.Nat.{_+_, _*_, _≤_};
 ghost use lib.ListN.{length};
-ghost use Rattle.packet.specs.Packet.{packetBytes};
-ghost use Rattle.packet.specs.Read.{fieldsGood, headerGood, sumGood, codesGood, zerosGood, recordGood, recordsGood, rateGood, sampleGood, beaconGood, bodyGood, readNumber};
+ghost use Rattle.packet.specs.Layout.{packetBytes, bodyAt, codeBytes, recordBytes};
+ghost use Rattle.packet.specs.Read.{fieldsGood, headerGood, sumGood, codesGood, zerosGood, recordsGood};
+ghost use Rattle.packet.specs.Read.{unmarked, rateGood, sampleGood, beaconGood, bodyGood, readNumber};
 use crate::fields::application;
-use crate::header;
+use crate::kind;
 use crate::kind::Kind;
 use crate::kind::is_kind;
 use crate::kind::kind_of;
+use crate::layout;
+use causes::unless;
 use wire::read::u16_at;
-
-// The numbers of a refused packet: no header, a wrong sum, a fault of the body.
-pub const NO_HEADER: u8 = 11;
-
-pub const WRONG_SUM: u8 = 12;
-
-pub const BODY_FAULT: u8 = 13;
 
 // The header's fields, but for the sequence count and the time.
 fn fields_good(packet: &[u8]) -> bool
     requires { ⌜ length (now packet) ≡ packetBytes ⌝ }
     ensures { λ r. ⌜ r ≡ fieldsGood (now (packet .entry)) ⌝ }
 {
-    (u16_at(packet, 0) / header::SECONDARY == 1)
-        & (u16_at(packet, 2) / header::SEQUENCE_COUNTS == 3)
-        & (u16_at(packet, 4) == header::LENGTH)
-        & (packet[10] == 0)
+    (u16_at(packet, layout::APPLICATION_AT) / layout::SECONDARY_FLAG == 1)
+        & (u16_at(packet, layout::SEQUENCE_AT) / layout::SEQUENCE_COUNTS == layout::SEQUENCE_FLAGS)
+        & (u16_at(packet, layout::LENGTH_AT) == layout::LENGTH_FIELD)
+        & (packet[layout::ZERO_AT] == 0)
         & is_kind(kind_of(application(packet)))
 }
 
@@ -34,7 +30,7 @@ fn fields_good(packet: &[u8]) -> bool
 fn header_good(packet: &[u8]) -> bool
     ensures { λ r. ⌜ r ≡ headerGood (now (packet .entry)) ⌝ }
 {
-    if packet.len() == header::PACKET_BYTES {
+    if packet.len() == layout::PACKET_BYTES {
         fields_good(packet)
     } else {
         false
@@ -46,19 +42,19 @@ fn sum_good(packet: &[u8]) -> bool
     requires { ⌜ length (now packet) ≡ packetBytes ⌝ }
     ensures { λ r. ⌜ r ≡ sumGood (now (packet .entry)) ⌝ }
 {
-    let sum = wire::read::byte_sum(&packet[0..header::SUM]);
-    packet[header::SUM] == (sum % 256) as u8
+    let sum = wire::read::byte_sum(&packet[0..layout::SUM_AT]);
+    packet[layout::SUM_AT] == (sum % 256) as u8
 }
 
 // Whether the first n codes are ones that counts have.
 fn codes_good(packet: &[u8], n: usize) -> bool
-    requires { ⌜ 11 + 2 * n ≤ length (now packet) ⌝ }
+    requires { ⌜ bodyAt + codeBytes * n ≤ length (now packet) ⌝ }
     ensures { λ r. ⌜ r ≡ codesGood n (now (packet .entry)) ⌝ }
 {
     let mut good = true;
     let mut i: usize = 0;
     while i < n {
-        good = good & crate::rate::valid(u16_at(packet, header::BODY + 2 * i));
+        good = good & crate::rate::valid(u16_at(packet, layout::BODY_AT + layout::CODE_BYTES * i));
         i += 1;
     }
     good
@@ -78,26 +74,30 @@ fn zeros_good(packet: &[u8], at: usize, n: usize) -> bool
     good
 }
 
-// Whether the record is empty or of a box that samples have.
-pub fn record_good(w: u32) -> bool
-    ensures { λ r. ⌜ r ≡ recordGood w ⌝ }
-{
-    let b = w / 2 % 128;
-    (w == 0) | ((6 <= b) & (b <= 116))
-}
-
-// Whether the first n records are.
+// Whether each of the first n records is empty or of a box that samples have.
 fn records_good(packet: &[u8], n: usize) -> bool
-    requires { ⌜ 11 + 4 * n ≤ length (now packet) ⌝ }
+    requires { ⌜ bodyAt + recordBytes * n ≤ length (now packet) ⌝ }
     ensures { λ r. ⌜ r ≡ recordsGood n (now (packet .entry)) ⌝ }
 {
     let mut good = true;
     let mut i: usize = 0;
     while i < n {
-        good = good & record_good(wire::read::u32_at(packet, header::BODY + 4 * i));
+        good = good
+            & sample_record::record_good(wire::read::u32_at(
+                packet,
+                layout::BODY_AT + layout::RECORD_BYTES * i,
+            ));
         i += 1;
     }
     good
+}
+
+// Whether the bytes behind the frame are zero.
+fn unmarked(packet: &[u8]) -> bool
+    requires { ⌜ length (now packet) ≡ packetBytes ⌝ }
+    ensures { λ r. ⌜ r ≡ unmarked (now (packet .entry)) ⌝ }
+{
+    (packet[layout::MARK_AT] == 0) & (packet[layout::LAST_AT] == 0)
 }
 
 // The body of a rate packet: its codes, LIMHI, and what has no use.
@@ -105,11 +105,11 @@ fn rate_good(packet: &[u8]) -> bool
     requires { ⌜ length (now packet) ≡ packetBytes ⌝ }
     ensures { λ r. ⌜ r ≡ rateGood (now (packet .entry)) ⌝ }
 {
-    codes_good(packet, header::RATES)
-        & zeros_good(packet, header::ZERO, 1)
-        & (packet[header::FLAGS] % 16 == 0)
-        & (u16_at(packet, header::LIMHI) <= settings::SLOTS)
-        & zeros_good(packet, header::MARK, 2)
+    codes_good(packet, layout::RATES)
+        & (packet[layout::GAP_AT] == 0)
+        & (packet[layout::FLAGS_AT] % layout::JUNK == 0)
+        & (u16_at(packet, layout::LIMHI_AT) <= settings::SLOTS)
+        & unmarked(packet)
 }
 
 // The body of a sample packet: its p, its records, and what has no use.
@@ -117,9 +117,9 @@ fn sample_good(packet: &[u8]) -> bool
     requires { ⌜ length (now packet) ≡ packetBytes ⌝ }
     ensures { λ r. ⌜ r ≡ sampleGood (now (packet .entry)) ⌝ }
 {
-    (application(packet) == header::SAMPLES + packet[header::MARK] as u16)
-        & zeros_good(packet, header::LAST, 1)
-        & records_good(packet, header::RECORDS)
+    (application(packet) == kind::SAMPLE_APPLICATION + packet[layout::MARK_AT] as u16)
+        & (packet[layout::LAST_AT] == 0)
+        & records_good(packet, layout::RECORDS)
 }
 
 // The body of a beacon packet: its codes, and what has no use.
@@ -127,9 +127,9 @@ fn beacon_good(packet: &[u8]) -> bool
     requires { ⌜ length (now packet) ≡ packetBytes ⌝ }
     ensures { λ r. ⌜ r ≡ beaconGood (now (packet .entry)) ⌝ }
 {
-    codes_good(packet, header::BEACONS)
-        & zeros_good(packet, header::BEACON_END, header::BEACON_ZEROS)
-        & zeros_good(packet, header::MARK, 2)
+    codes_good(packet, layout::BEACONS)
+        & zeros_good(packet, layout::BEACON_END, layout::BEACON_UNUSED)
+        & unmarked(packet)
 }
 
 fn body_good(kind: Kind, packet: &[u8]) -> bool
@@ -149,14 +149,12 @@ pub fn number(packet: &[u8]) -> u8
     ensures { λ r. ⌜ r ≡ readNumber (now (packet .entry)) ⌝ }
 {
     if !header_good(packet) {
-        return NO_HEADER;
+        return causes::NO_HEADER;
     }
-    if !sum_good(packet) {
-        return WRONG_SUM;
-    }
-    if body_good(kind_of(application(packet)), packet) {
-        0
-    } else {
-        BODY_FAULT
-    }
+    let good = body_good(kind_of(application(packet)), packet);
+    unless(
+        sum_good(packet),
+        causes::PACKET_SUM,
+        unless(good, causes::BODY_FAULT, causes::CARRIED_OUT),
+    )
 }

@@ -1,7 +1,16 @@
 // The kinds of packet, by application number.
 ghost use mathlib.Core.Path.{_≡_};
 ghost use Rattle.packet.specs.Read.{kindOf, isKind};
-use crate::header;
+
+// Application numbers; sample packet p has SAMPLE_APPLICATION + p.
+pub const RATE_APPLICATION: u16 = 605;
+
+pub const SAMPLE_APPLICATION: u16 = 606;
+
+pub const BEACON_APPLICATION: u16 = 624;
+
+// The last sample packet's p.
+pub const LAST_SAMPLE: u8 = 10;
 
 pub enum Kind {
     Rate,
@@ -14,14 +23,14 @@ pub enum Kind {
 pub fn kind_of(application: u16) -> Kind
     ensures { λ r. ⌜ r ≡ kindOf application ⌝ }
 {
-    if application == header::RATE {
+    if application == RATE_APPLICATION {
         return Kind::Rate;
     }
-    if application == header::BEACON {
+    if application == BEACON_APPLICATION {
         return Kind::Beacon;
     }
-    if (header::SAMPLES <= application)
-        & (application <= header::SAMPLES + header::LAST_SAMPLE as u16)
+    if (SAMPLE_APPLICATION <= application)
+        & (application <= SAMPLE_APPLICATION + LAST_SAMPLE as u16)
     {
         return Kind::Sample;
     }

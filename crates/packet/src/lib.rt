@@ -1,8 +1,10 @@
 // The packets of an interval: rate codes, writing, the table sum, reading.
+mod envelope;
 pub mod faults;
 pub mod fields;
-pub mod header;
 pub mod kind;
-pub mod rate;
+pub mod layout;
+mod rate;
+pub mod stamp;
 pub mod table_sum;
 pub mod write;

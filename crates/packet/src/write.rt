@@ -5,98 +5,119 @@ ghost use lib.ListN.{length};
 ghost use Rattle.wire.specs.Bytes.{put};
 ghost use Rattle.wire.specs.Lists.{EachBelow};
 ghost use Rattle.packet.specs.Rate.{countLimit};
-ghost use Rattle.packet.specs.Packet.{packetBytes, lastSample, codes, bit, flagsOf, settingsBytes, ratePacket, samplePacket, beaconPacket};
-use crate::header;
-use crate::header::finish;
-use crate::header::write_header;
+ghost use Rattle.packet.specs.Layout.{packetBytes, frameAt, sumAt, gapAt, codeBytes};
+ghost use Rattle.packet.specs.Layout.{totalCount, boxCount, recordCount, beaconCount};
+ghost use Rattle.packet.specs.Packet.{lastSample, trailer, codes, settingsFlags, settingsBytes};
+ghost use Rattle.packet.specs.Packet.{ratePacket, samplePacket, beaconPacket};
+use crate::envelope::write_header;
+use crate::envelope::write_sum;
+use crate::kind;
+use crate::layout;
+use crate::stamp::Stamp;
 use settings::Settings;
+use wire::bits::bit;
 use wire::write::put_u8;
 use wire::write::put_u16;
 
+// The frame and the two bytes behind it.
+fn write_trailer(part: &mut [u8], stamp: Stamp)
+    requires { ⌜ sumAt ≤ length (now part) ⌝ }
+    ensures { λ _. ⌜ now (part .exit) ≡ put (now (part .entry)) frameAt (trailer stamp) ⌝ }
+{
+    put_u16(part, layout::FRAME_AT, stamp.frame);
+    put_u8(part, layout::MARK_AT, stamp.mark);
+    put_u8(part, layout::LAST_AT, stamp.last);
+}
+
 // The counts' codes, two bytes each, from `at` on.
 fn write_codes(part: &mut [u8], at: usize, counts: &[u32])
-    requires { ⌜ at + 2 * length (now counts) ≤ length (now part) ⌝ }
+    requires { ⌜ at + codeBytes * length (now counts) ≤ length (now part) ⌝ }
     requires { ⌜ EachBelow countLimit (now counts) ⌝ }
     ensures { λ _. ⌜ now (part .exit) ≡ put (now (part .entry)) at (codes (now (counts .entry))) ⌝ }
 {
     let mut i: usize = 0;
     while i < counts.len() {
-        put_u16(part, at + 2 * i, crate::rate::encode(counts[i]));
+        put_u16(
+            part,
+            at + layout::CODE_BYTES * i,
+            crate::rate::encode(counts[i]),
+        );
         i += 1;
     }
 }
 
-fn bit_of(flag: bool) -> u8
-    ensures { λ r. ⌜ (r ≡ bit flag) × (r ≤ 1) ⌝ }
-{
-    if flag { 1 } else { 0 }
-}
-
 // The settings that are on or off, in one byte.
 fn flags(s: Settings) -> u8
-    ensures { λ r. ⌜ r ≡ flagsOf s ⌝ }
+    ensures { λ r. ⌜ r ≡ settingsFlags s ⌝ }
 {
-    header::HV * bit_of(s.hv)
-        + header::EONLY * bit_of(s.eonly)
-        + header::TOFERROR * bit_of(s.toferror)
-        + header::JUNK * bit_of(s.junk)
+    layout::HV * bit(s.hv)
+        + layout::EONLY * bit(s.eonly)
+        + layout::TOFERROR * bit(s.toferror)
+        + layout::JUNK * bit(s.junk)
 }
 
-// The bytes 259 to 266 of a rate packet.
+// What stands between a rate packet's codes and its frame.
 fn write_settings(part: &mut [u8], s: Settings, sum: u32)
-    requires { ⌜ 267 ≤ length (now part) ⌝ }
+    requires { ⌜ frameAt ≤ length (now part) ⌝ }
     requires { ⌜ sum < 16777216 ⌝ }
-    ensures { λ _. ⌜ now (part .exit) ≡ put (now (part .entry)) 259 (settingsBytes s sum) ⌝ }
+    ensures { λ _. ⌜ now (part .exit) ≡ put (now (part .entry)) gapAt (settingsBytes s sum) ⌝ }
 {
-    put_u8(part, header::ZERO, 0);
-    put_u8(part, header::HVSTEP, s.hvstep);
-    put_u8(part, header::FLAGS, flags(s));
-    put_u16(part, header::LIMHI, s.limhi);
-    wire::write::put_u24(part, header::TABLE_SUM, sum);
+    put_u8(part, layout::GAP_AT, 0);
+    put_u8(part, layout::HVSTEP_AT, s.hvstep);
+    put_u8(part, layout::FLAGS_AT, flags(s));
+    put_u16(part, layout::LIMHI_AT, s.limhi);
+    wire::write::put_u24(part, layout::TABLE_SUM_AT, sum);
 }
 
 // The rate packet: eight totals and 116 boxes as codes, the settings, the table sum.
 pub fn write_rate<'a>(
     part: &mut [u8],
-    frame: u16,
-    time: u32,
+    stamp: Stamp,
     totals: &'a [u32],
     boxes: &'a [u32],
     settings: Settings,
     sum: u32,
 )
     requires { ⌜ length (now part) ≡ packetBytes ⌝ }
-    requires { ⌜ (length (now totals) ≡ 8) × (length (now boxes) ≡ 116) ⌝ }
+    requires { ⌜ (length (now totals) ≡ totalCount) × (length (now boxes) ≡ boxCount) ⌝ }
     requires { ⌜ EachBelow countLimit (now totals) × EachBelow countLimit (now boxes) ⌝ }
     requires { ⌜ sum < 16777216 ⌝ }
-    ensures { λ _. ⌜ now (part .exit) ≡ ratePacket frame time (now (totals .entry)) (now (boxes .entry)) settings sum ⌝ }
+    ensures { λ _. ⌜ now (part .exit) ≡ ratePacket stamp (now (totals .entry)) (now (boxes .entry)) settings sum ⌝ }
 {
-    write_header(part, header::RATE, frame, time);
-    write_codes(part, header::BODY, totals);
-    write_codes(part, header::BOXES, boxes);
+    write_header(part, kind::RATE_APPLICATION, stamp.sequence, stamp.time);
+    write_codes(part, layout::BODY_AT, totals);
+    write_codes(part, layout::BOXES_AT, boxes);
     write_settings(part, settings, sum);
-    finish(part, frame, 0);
+    write_trailer(part, stamp);
+    write_sum(part);
 }
 
-// Sample packet p, with the records straight in their place.
-pub fn write_samples(part: &mut [u8], frame: u16, time: u32, p: u8, records: &[u32])
-    requires { ⌜ (length (now part) ≡ packetBytes) × (length (now records) ≡ 64) ⌝ }
-    requires { ⌜ p ≤ lastSample ⌝ }
-    ensures { λ _. ⌜ now (part .exit) ≡ samplePacket frame time p (now (records .entry)) ⌝ }
+// The sample packet that the stamp's mark numbers, with the records straight in their place.
+pub fn write_samples(part: &mut [u8], stamp: Stamp, records: &[u32])
+    requires { ⌜ (length (now part) ≡ packetBytes) × (length (now records) ≡ recordCount) ⌝ }
+    requires { ⌜ stamp .mark ≤ lastSample ⌝ }
+    ensures { λ _. ⌜ now (part .exit) ≡ samplePacket stamp (now (records .entry)) ⌝ }
 {
-    write_header(part, header::SAMPLES + (p as u16), frame, time);
-    wire::write::put_words(part, header::BODY, records);
-    finish(part, frame, p);
+    write_header(
+        part,
+        kind::SAMPLE_APPLICATION + (stamp.mark as u16),
+        stamp.sequence,
+        stamp.time,
+    );
+    wire::write::put_words(part, layout::BODY_AT, records);
+    write_trailer(part, stamp);
+    write_sum(part);
 }
 
 // The beacon packet: twelve counts as codes, and zeros.
-pub fn write_beacon(part: &mut [u8], frame: u16, time: u32, beacons: &[u32])
-    requires { ⌜ (length (now part) ≡ packetBytes) × (length (now beacons) ≡ 12) ⌝ }
+pub fn write_beacon(part: &mut [u8], stamp: Stamp, beacons: &[u32])
+    requires { ⌜ (length (now part) ≡ packetBytes) × (length (now beacons) ≡ beaconCount) ⌝ }
     requires { ⌜ EachBelow countLimit (now beacons) ⌝ }
-    ensures { λ _. ⌜ now (part .exit) ≡ beaconPacket frame time (now (beacons .entry)) ⌝ }
+    ensures { λ _. ⌜ now (part .exit) ≡ beaconPacket stamp (now (beacons .entry)) ⌝ }
 {
-    write_header(part, header::BEACON, frame, time);
-    write_codes(part, header::BODY, beacons);
-    wire::write::put_zeros(part, header::BEACON_END, header::FRAME);
-    finish(part, frame, 0);
+    write_header(part, kind::BEACON_APPLICATION, stamp.sequence, stamp.time);
+    write_codes(part, layout::BODY_AT, beacons);
+    wire::write::put_zeros(part, layout::BEACON_END, layout::FRAME_AT);
+    write_trailer(part, stamp);
+    write_sum(part);
 }

@@ -1,14 +1,8 @@
--- Laws of lists of numbers below a limit. Assumes nothing.
+-- A list of numbers below a limit stays one when a number below the limit is set in it. Assumes nothing.
 use mathlib.Core.List.{List, [], _∷_}
 use Prim.Native.Nat.{ℕ, zero, suc, _<_}
 use lib.ListN.{set}
-use Rattle.wire.specs.Bytes.{zeros}
 use Rattle.wire.specs.Lists.{EachBelow}
-
-pub zeros-below : (m n : ℕ) → 0 < m → EachBelow m (zeros n)
-zeros-below m zero h k = h
-zeros-below m (suc n) h zero = h
-zeros-below m (suc n) h (suc k) = zeros-below m n h k
 
 pub set-below : (m : ℕ) (xs : List ℕ) (i v : ℕ) → EachBelow m xs → v < m → EachBelow m (set xs i v)
 set-below m [] i v e h k = e k

@@ -1,4 +1,6 @@
-// Damaged packets: each case prints the number that the reader answers.
+// Damaged packets: each case prints the number that the reader answers. The places are those of document 01, written out.
+use packet::layout::PACKET_BYTES;
+use packet::layout::SUM_AT;
 
 fn read_number(part: &[u8]) {
     let p = ground::read(part);
@@ -14,13 +16,13 @@ fn cut(part: &[u8], n: usize) {
 
 // The packet with another byte at `at` and its old sum.
 fn changed(part: &[u8], at: usize, v: u8) {
-    if part.len() != 272 {
+    if part.len() != PACKET_BYTES {
         return;
     }
-    if 272 <= at {
+    if PACKET_BYTES <= at {
         return;
     }
-    let mut copy = [0u8; 272];
+    let mut copy = [0u8; PACKET_BYTES];
     wire::write::put_bytes(&mut copy, 0, part);
     wire::write::put_u8(&mut copy, at, v);
     read_number(&copy);
@@ -28,17 +30,17 @@ fn changed(part: &[u8], at: usize, v: u8) {
 
 // The same with the sum of the changed bytes.
 fn summed(part: &[u8], at: usize, v: u8) {
-    if part.len() != 272 {
+    if part.len() != PACKET_BYTES {
         return;
     }
-    if 272 <= at {
+    if PACKET_BYTES <= at {
         return;
     }
-    let mut copy = [0u8; 272];
+    let mut copy = [0u8; PACKET_BYTES];
     wire::write::put_bytes(&mut copy, 0, part);
     wire::write::put_u8(&mut copy, at, v);
-    let sum = wire::read::byte_sum(&copy[0..271]);
-    wire::write::put_u8(&mut copy, 271, (sum % 256) as u8);
+    let sum = wire::read::byte_sum(&copy[0..SUM_AT]);
+    wire::write::put_u8(&mut copy, SUM_AT, (sum % 256) as u8);
     read_number(&copy);
 }
 

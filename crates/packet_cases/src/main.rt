@@ -3,12 +3,14 @@ mod cases;
 mod show;
 mod values;
 
+use packet::layout;
+use packet::stamp::stamp_of;
 use settings::Settings;
 
 fn main() {
-    let mut part = [255u8; 272];
+    let mut part = [255u8; layout::PACKET_BYTES];
     let totals = [4095u32, 4096, 4097, 8191, 8192, 1000000, 16777215, 0];
-    let mut boxes = [0u32; 116];
+    let mut boxes = [0u32; layout::BOXES];
     values::fill_counts(&mut boxes, 1);
     let s = Settings {
         limhi: 704,
@@ -18,17 +20,18 @@ fn main() {
         hv: true,
         hvstep: 201,
     };
-    packet::write::write_rate(&mut part, 0, 305419896, &totals, &boxes, s, 11259375);
+    let stamp = stamp_of(0, 305419896, 0);
+    packet::write::write_rate(&mut part, stamp, &totals, &boxes, s, 11259375);
     show::packet(&part);
     cases::rate(&part);
-    let mut records = [0u32; 64];
+    let mut records = [0u32; layout::RECORDS];
     values::fill_records(&mut records, 7);
-    packet::write::write_samples(&mut part, 40000, 4294967295, 10, &records);
+    packet::write::write_samples(&mut part, stamp_of(40000, 4294967295, 10), &records);
     show::packet(&part);
     cases::sample(&part);
-    let mut beacons = [0u32; 12];
+    let mut beacons = [0u32; layout::BEACONS];
     values::fill_counts(&mut beacons, 99);
-    packet::write::write_beacon(&mut part, 65535, 60, &beacons);
+    packet::write::write_beacon(&mut part, stamp_of(65535, 60, 0), &beacons);
     show::packet(&part);
     cases::beacon(&part);
 }

@@ -1,6 +1,11 @@
 // Lines of output.
 use libc::STDOUT_FILENO;
 use packet::kind::Kind;
+use packet::layout::BEACONS;
+use packet::layout::RATES;
+use wire::bits::bit;
+use wire::bits::wide8;
+use wire::bits::wide32;
 
 fn end_line() {
     io::write_all(STDOUT_FILENO, b"\n");
@@ -9,18 +14,10 @@ fn end_line() {
 fn hex_line(bytes: &[u8]) {
     let mut i: usize = 0;
     while i < bytes.len() {
-        io::print_hex(STDOUT_FILENO, wide(bytes[i]), 2);
+        io::print_hex(STDOUT_FILENO, wide8(bytes[i]) as u64, 2);
         i += 1;
     }
     end_line();
-}
-
-fn wide(x: u8) -> u64 {
-    x as u64
-}
-
-fn wide_32(x: u32) -> u64 {
-    x as u64
 }
 
 pub fn number(n: u64) {
@@ -36,17 +33,17 @@ fn word(n: u64) {
 fn counts_line(counts: &[u32]) {
     let mut i: usize = 0;
     while i < counts.len() {
-        word(wide_32(counts[i]));
+        word(wide32(counts[i]));
         i += 1;
     }
     end_line();
 }
 
-fn rates_line(rates: &[u32; 124]) {
+fn rates_line(rates: &[u32; RATES]) {
     counts_line(rates);
 }
 
-fn beacons_line(beacons: &[u32; 12]) {
+fn beacons_line(beacons: &[u32; BEACONS]) {
     counts_line(beacons);
 }
 
@@ -57,10 +54,6 @@ fn kind_number(kind: Kind) -> u64 {
         Kind::Beacon => 3,
         Kind::None => 0,
     }
-}
-
-fn flag(b: bool) -> u64 {
-    if b { 1 } else { 0 }
 }
 
 // A packet's bytes, and all that the reader answers for it.
@@ -79,10 +72,10 @@ pub fn packet(bytes: &[u8]) {
     end_line();
     let s = p.settings;
     word(s.limhi as u64);
-    word(flag(s.eonly));
-    word(flag(s.toferror));
-    word(flag(s.junk));
-    word(flag(s.hv));
+    word(bit(s.eonly) as u64);
+    word(bit(s.toferror) as u64);
+    word(bit(s.junk) as u64);
+    word(bit(s.hv) as u64);
     word(s.hvstep as u64);
     end_line();
     let rates = p.rates;

@@ -1,4 +1,3 @@
-pub mod CloseLaws
-pub mod EventLaws
-pub mod LineLaws
-pub mod PackageLaws
+pub mod CallLaws
+pub mod OutputLaws
+pub mod LimitsKept

@@ -1,10 +1,15 @@
--- What every call hands back (document 01, "Causes and their numbers"). Assumes nothing.
-use mathlib.Core.Bool.{cond}
+-- What every call but `close` hands back (document 01, "Causes and their numbers"). Assumes nothing.
 use Prim.Native.Nat.{ℕ}
+use mathlib.Core.Bool.{cond}
 use lib.Dec.{eqb}
+use Rattle.causes.specs.Causes.{carriedOut}
 use Rattle.state.specs.declared.State.{State}
 use Rattle.processor.specs.declared.Answer.{Answer}
 
--- a call that is carried out answers 0 and the state after it; any other its number, and "left as it was": the state before
-abbrev pub answered : (number : ℕ) (after before : State) → Answer
-answered number after before = record { number = number; state = cond (eqb number 0) after before }
+-- a number and a state
+abbrev pub answer : (number : ℕ) → State → Answer
+answer number s = record { number = number; state = s }
+
+-- "A call that is carried out answers 0": what it makes of something; what it would have changed is "left as it was" by any other number
+abbrev pub ifCarriedOut : {A : Type 0} (number : ℕ) (after before : A) → A
+ifCarriedOut number after before = cond (eqb number carriedOut) after before

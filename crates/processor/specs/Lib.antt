@@ -1,6 +1,6 @@
 pub mod Answer
-pub mod Close
 pub mod Event
+pub mod Reading
 pub mod Line
 pub mod Package
-pub mod Reading
+pub mod Close

@@ -1,69 +1,54 @@
 -- The call `package` (document 01, "Commands and loads" and "Causes and their numbers"). Assumes nothing.
-use mathlib.Core.Bool.{Bool, _||_, cond}
-use mathlib.Core.List.{List}
+use mathlib.Core.Bool.{Bool, _&&_, _||_, not, cond}
+use mathlib.Core.List.{List, _∷_}
 use Prim.Native.Nat.{ℕ}
 use lib.Dec.{eqb}
 use lib.ListN.{length}
+use Rattle.causes.specs.Causes as cause
+use Rattle.causes.specs.Checks.{Check, numberBy}
 use Rattle.command.specs.Echo.{echoBytes, packageOkEcho, packageErrorEcho}
-use Rattle.load.specs.Staging.{stagingBytes, placedBytes, receivedSum, computedSum, packageNumber, stagingAfter, addressesAfter}
+use Rattle.load.specs.Staging.{stagingBytes, payloadBytes, receivedSum, computedSum, packageChecks, stagingAfter, addressesAfter}
+use Rattle.orders.specs.Orders.{loadWaits}
 use Rattle.state.specs.declared.State.{State}
+use Rattle.state.specs.State.{withStaging}
 use Rattle.state.specs.Limits.{withinLimits}
 use Rattle.processor.specs.declared.Answer.{Answer}
-use Rattle.processor.specs.Line.{loadWaits}
+use Rattle.processor.specs.Answer.{answer}
 
--- "1 lent buffer of other length, or a state over a limit; 6 a load waits", then 8, 9, 10, from the lengths of staging and echo
+-- "lent buffer .. of other length, or a state over a limit", from the lengths of staging and echo; "a load waits (.. package)"; then
+-- those of the package itself, 8, 9 and 10
+abbrev pub packageCallChecks : State → (p : List ℕ) (staging echo : ℕ) → List Check
+packageCallChecks s p staging echo =
+    (withinLimits s && eqb staging stagingBytes && eqb echo echoBytes, cause.bufferOrState)
+    ∷ (not (loadWaits (s .orders)), cause.loadWaits)
+    ∷ packageChecks p (s .staging .next)
+
 unfoldable pub packageCallNumber : State → (p : List ℕ) (staging echo : ℕ) → ℕ
-packageCallNumber s p staging echo =
-    cond (eqb staging stagingBytes)
-    (cond (eqb echo echoBytes)
-    (cond (withinLimits s)
-    (cond (loadWaits s) 6 (packageNumber p (s .next)))
-    1)
-    1)
-    1
+packageCallNumber s p staging echo = numberBy (packageCallChecks s p staging echo)
 
 -- 10 is the one refusal that changes something: "all but staging, addresses, echo"
-abbrev pub isPlaced : ℕ → Bool
-isPlaced number = eqb number 0 || eqb number 10
-
--- "Bytes go to the next address, which moves past them, reach too"
-unfoldable pub stateStaged : State → List ℕ → State
-stateStaged s p = record {
-  frame = s .frame;
-  taken = s .taken;
-  counts = s .counts;
-  used = s .used;
-  replaced = s .replaced;
-  readings = s .readings;
-  totals = s .totals;
-  settings = s .settings;
-  accepted = s .accepted;
-  waiting = s .waiting;
-  waiters = s .waiters;
-  next = addressesAfter (s .next) (s .reach) p .next;
-  reach = addressesAfter (s .next) (s .reach) p .reach;
-}
+abbrev pub isStaged : (number : ℕ) → Bool
+isStaged number = eqb number cause.carriedOut || eqb number cause.packageSum
 
 -- "A the address before, N the bytes placed"; "ckserr with received and computed sum for OK"
-abbrev pub placedEcho : (number next : ℕ) (p : List ℕ) → List ℕ
-placedEcho number next p =
-    cond (eqb number 0)
-    (packageOkEcho next (placedBytes p))
-    (packageErrorEcho next (placedBytes p) (receivedSum p) (computedSum p))
+abbrev pub stagedEcho : (number next : ℕ) (p : List ℕ) → List ℕ
+stagedEcho number next p =
+    cond (eqb number cause.carriedOut)
+    (packageOkEcho next (payloadBytes p))
+    (packageErrorEcho next (payloadBytes p) (receivedSum p) (computedSum p))
 
--- the answer, staging and the echo at exit
-unfoldable pub packageAnswer : State → (p staging echo : List ℕ) → Answer
-packageAnswer s p staging echo = record {
-  number = packageCallNumber s p (length staging) (length echo);
-  state = cond (isPlaced (packageCallNumber s p (length staging) (length echo))) (stateStaged s p) s;
+-- what the call hands back and leaves in the lent staging and echo
+pub record PackageDone : Type 0 where
+  pub answer : Answer
+  pub staging : List ℕ
+  pub echo : List ℕ
+
+abbrev pub packageBy : (number : ℕ) → State → (p staging echo : List ℕ) → PackageDone
+packageBy number s p staging echo = record {
+  answer = answer number (cond (isStaged number) (withStaging s (addressesAfter (s .staging) p)) s);
+  staging = cond (isStaged number) (stagingAfter staging (s .staging .next) p) staging;
+  echo = cond (isStaged number) (stagedEcho number (s .staging .next) p) echo;
 }
 
-unfoldable pub packageStaging : State → (p staging echo : List ℕ) → List ℕ
-packageStaging s p staging echo =
-    cond (isPlaced (packageCallNumber s p (length staging) (length echo))) (stagingAfter staging (s .next) p) staging
-
-unfoldable pub packageEcho : State → (p staging echo : List ℕ) → List ℕ
-packageEcho s p staging echo =
-    cond (isPlaced (packageCallNumber s p (length staging) (length echo)))
-    (placedEcho (packageCallNumber s p (length staging) (length echo)) (s .next) p)
-    echo
+unfoldable pub packageDone : State → (p staging echo : List ℕ) → PackageDone
+packageDone s p staging echo = packageBy (packageCallNumber s p (length staging) (length echo)) s p staging echo

@@ -1,12 +1,15 @@
 // The end of an interval.
 ghost use mathlib.Core.Path.{_≡_};
-ghost use mathlib.Core.Bool.{cond};
-ghost use Prim.Native.Nat.{_+_, _%_, _≤_};
-ghost use Rattle.state.specs.State.{noCounts};
-ghost use Rattle.state.specs.Limits.{mostCommands};
-ghost use Rattle.processor.specs.Close.{closeNumber, stateClosed, closeAnswer, closeTables, closeSlots, closeOut};
+ghost use Prim.Native.Nat.{_+_, _%_};
+ghost use Rattle.state.specs.Interval.{noCounts};
+ghost use Rattle.processor.specs.Close.{closeNumber, stateClosed, closeDone};
+use causes::unless;
+use packet::layout::PACKET_BYTES;
 use sort::counts::Counts;
 use state::State;
+
+// The length of the output: thirteen packets.
+pub const OUT_BYTES: usize = 13 * PACKET_BYTES;
 
 // What a close hands back: its number and the state; where it was carried out, the counts of the interval that
 // ended, and otherwise zeros.
@@ -18,37 +21,19 @@ pub struct Closed {
     pub filled: usize,
 }
 
-// The call's number, 1 or 0: the lengths, the state's limits, and each slot zero or of box 6 to 116.
+// The call's number, from the lengths of tables, staging and output.
 fn close_number(s: State, tables: usize, staging: usize, slots: &[u32], out: usize) -> u8
     ensures { λ r. ⌜ r ≡ closeNumber s tables staging (now (slots .entry)) out ⌝ }
 {
-    if tables != tables::TABLE_BYTES {
-        return crate::WRONG_BUFFER_OR_STATE;
-    }
-    if staging != load::staging::STAGING_BYTES {
-        return crate::WRONG_BUFFER_OR_STATE;
-    }
-    if slots.len() != settings::SLOTS as usize {
-        return crate::WRONG_BUFFER_OR_STATE;
-    }
-    if out != crate::packets::OUT_BYTES {
-        return crate::WRONG_BUFFER_OR_STATE;
-    }
-    if !state::limits::within_limits(s) {
-        return crate::WRONG_BUFFER_OR_STATE;
-    }
-    if crate::slots::all_good(slots) {
-        crate::CARRIED_OUT
-    } else {
-        crate::WRONG_BUFFER_OR_STATE
-    }
-}
-
-// An address of staging after the waiting commands: 0 once a load has run.
-fn address_after(address: u32, loads: bool) -> u32
-    ensures { λ r. ⌜ r ≡ cond loads 0 address ⌝ }
-{
-    if loads { 0 } else { address }
+    let limits = state::limits::within_limits(s);
+    let good = crate::slots::all_good(slots);
+    let sound = limits
+        & (tables == tables::TABLE_BYTES)
+        & (staging == load::staging::STAGING_BYTES)
+        & (slots.len() == settings::SLOTS as usize)
+        & (out == OUT_BYTES)
+        & good;
+    unless(sound, causes::BUFFER_OR_STATE, causes::CARRIED_OUT)
 }
 
 fn next_frame(frame: u16) -> u16
@@ -57,19 +42,16 @@ fn next_frame(frame: u16) -> u16
     ((frame as u32 + 1) % 65536) as u16
 }
 
-// The state of the next interval: fresh, but for the frame number, the settings and the staging addresses.
+// The state of the next interval: the waiting commands have run, and nothing is taken yet.
 fn closed_state(s: State) -> State
-    requires { ⌜ s .waiters ≤ mostCommands ⌝ }
     ensures { λ r. ⌜ r ≡ stateClosed s ⌝ }
 {
-    let waiting = s.waiting;
-    let settings = crate::waiting::run_settings(s.settings, waiting, s.waiters);
-    let loads = crate::line::load_waits(s);
+    let settings = orders::run_settings(s.settings, s.orders);
+    let staging = orders::run_addresses(s.staging, s.orders);
     let mut t = state::fresh();
     t.frame = next_frame(s.frame);
     t.settings = settings;
-    t.next = address_after(s.next, loads);
-    t.reach = address_after(s.reach, loads);
+    t.staging = staging;
     t
 }
 
@@ -77,10 +59,7 @@ fn closed_state(s: State) -> State
 fn refused(number: u8, state: State) -> Closed
     ensures { λ r. ⌜ (r .number ≡ number) × (r .state ≡ state) × (r .taken ≡ 0) × (r .counts ≡ noCounts) × (r .filled ≡ 0) ⌝ }
 {
-    let counts = Counts {
-        boxes: [0u32; 116],
-        beacons: [0u32; 12],
-    };
+    let counts = state::interval::no_counts();
     Closed {
         number,
         state,
@@ -99,26 +78,33 @@ pub fn close(
     slots: &mut [u32],
     out: &mut [u8],
 ) -> Closed
-    ensures answer { λ r. ⌜ r ≡ closeAnswer state (now (tables .entry)) (now (staging .entry)) (now (slots .entry)) (now (out .entry)) ⌝ }
-    ensures tables { λ r. ⌜ now (tables .exit) ≡ closeTables state (now (tables .entry)) (now (staging .entry)) (now (slots .entry)) (now (out .entry)) ⌝ }
-    ensures slots { λ r. ⌜ now (slots .exit) ≡ closeSlots state (now (tables .entry)) (now (staging .entry)) (now (slots .entry)) (now (out .entry)) ⌝ }
-    ensures out { λ r. ⌜ now (out .exit) ≡ closeOut state time (now (tables .entry)) (now (staging .entry)) (now (slots .entry)) (now (out .entry)) ⌝ }
+    ensures answer { λ r. ⌜ r ≡ closeDone state time (now (tables .entry)) (now (staging .entry)) (now (slots .entry)) (now (out .entry)) .answer ⌝ }
+    ensures tables { λ r. ⌜ now (tables .exit) ≡ closeDone state time (now (tables .entry)) (now (staging .entry)) (now (slots .entry)) (now (out .entry)) .tables ⌝ }
+    ensures slots { λ r. ⌜ now (slots .exit) ≡ closeDone state time (now (tables .entry)) (now (staging .entry)) (now (slots .entry)) (now (out .entry)) .slots ⌝ }
+    ensures out { λ r. ⌜ now (out .exit) ≡ closeDone state time (now (tables .entry)) (now (staging .entry)) (now (slots .entry)) (now (out .entry)) .out ⌝ }
 {
     let number = close_number(state, tables.len(), staging.len(), slots, out.len());
-    if number != crate::CARRIED_OUT {
+    if number != causes::CARRIED_OUT {
         return refused(number, state);
     }
     let filled = crate::slots::filled(slots);
-    crate::packets::write_packets(state, time, tables, slots, out);
-    let waiting = state.waiting;
-    crate::waiting::run_loads(tables, staging, state.reach, waiting, state.waiters);
+    crate::output::write_packets(
+        state.frame,
+        time,
+        state.interval,
+        state.settings,
+        tables,
+        slots,
+        out,
+    );
+    orders::run_loads(tables, staging, state.staging.reach, state.orders);
     crate::slots::clear(slots);
-    let counts = state.counts;
+    let counts = state.interval.counts;
     let after = closed_state(state);
     Closed {
-        number: crate::CARRIED_OUT,
+        number: causes::CARRIED_OUT,
         state: after,
-        taken: state.taken,
+        taken: state.interval.taken,
         counts: counts,
         filled,
     }

@@ -3,102 +3,90 @@ ghost use mathlib.Core.Path.{_≡_};
 ghost use mathlib.Core.Bool.{true};
 ghost use Prim.Native.Nat.{_≤_, _<_};
 ghost use lib.ListN.{length};
+ghost use Rattle.causes.specs.Checks.{numberBy};
 ghost use Rattle.command.specs.Echo.{echoBytes};
 ghost use Rattle.command.specs.Grammar.{bytesOk};
-ghost use Rattle.state.specs.Limits.{mostCommands, withinLimits};
-ghost use Rattle.processor.specs.Line.{loadWaits, commandsFull, refusalOf, lineCause, pushed, addressed, stateAfter, acceptedEchoFor, lineAnswer, lineEcho};
+ghost use Rattle.orders.specs.Orders.{mostCommands, loadWaits, commandsFull, pushed, counted};
+ghost use Rattle.state.specs.Limits.{withinLimits};
+ghost use Rattle.state.specs.State.{withOrders, withStaging};
+ghost use Rattle.processor.specs.Line.{commandChecks, stateTold, toldEcho, lineDone};
 use crate::Answer;
+use causes::unless;
 use command::command::Command;
 use command::command::Line;
+use command::command::is_command;
+use command::command::is_wrong;
+use command::command::uses_staging;
+use load::staging::Addresses;
 use state::State;
-use state::Waiting;
-
-// Whether a load waits.
-pub fn load_waits(s: State) -> bool
-    requires { ⌜ s .waiters ≤ mostCommands ⌝ }
-    ensures { λ r. ⌜ r ≡ loadWaits s ⌝ }
-{
-    let waiting = s.waiting;
-    1 <= state::commands::loads(waiting, s.waiters)
-}
-
-// A right command is refused by 6 where a load blocks it, and by 7 after 32 commands.
-fn refusal(blocked: bool, full: bool) -> u8
-    ensures { λ r. ⌜ r ≡ refusalOf blocked full ⌝ }
-{
-    if blocked {
-        return crate::LOAD_WAITS;
-    }
-    if full {
-        crate::COMMANDS_FULL
-    } else {
-        crate::CARRIED_OUT
-    }
-}
 
 // The cause among 5, 6 and 7, or 0: by whether a load waits, and whether there were 32 commands.
-fn line_cause(waits: bool, full: bool, l: Line) -> u8
-    ensures { λ r. ⌜ r ≡ lineCause waits full l ⌝ }
+fn command_number(waits: bool, full: bool, l: Line) -> u8
+    ensures { λ r. ⌜ r ≡ numberBy (commandChecks waits full l) ⌝ }
 {
-    match l {
-        Line::Empty => crate::CARRIED_OUT,
-        Line::Wrong => crate::WRONG_LINE,
-        Line::Waits(c) => refusal(state::commands::is_load(c) & waits, full),
-        Line::LoadZero => refusal(waits, full),
-        Line::LoadAt(_) => refusal(waits, full),
-    }
-}
-
-// The command joins those that wait.
-fn push(s: State, c: Command) -> State
-    requires { ⌜ (s .waiters < mostCommands) × (s .accepted < mostCommands) ⌝ }
-    ensures { λ r. ⌜ r ≡ pushed s c ⌝ }
-{
-    let at = s.waiters;
-    let mut t = s;
-    t.waiting[at] = Waiting { command: c };
-    t.waiters = at + 1;
-    t.accepted = s.accepted + 1;
-    t
+    let room = unless(
+        !(is_command(l) & full),
+        causes::COMMANDS_FULL,
+        causes::CARRIED_OUT,
+    );
+    let free = unless(!(uses_staging(l) & waits), causes::LOAD_WAITS, room);
+    unless(!is_wrong(l), causes::WRONG_LINE, free)
 }
 
 // A command that sets the staging addresses at once.
-fn set_addresses(s: State, next: u32, reach: u32) -> State
-    requires { ⌜ s .accepted < mostCommands ⌝ }
-    ensures { λ r. ⌜ r ≡ addressed s next reach ⌝ }
+fn set_addresses(s: State, a: Addresses) -> State
+    requires { ⌜ s .orders .accepted < mostCommands ⌝ }
+    ensures { λ r. ⌜ r ≡ withStaging (withOrders s (counted (s .orders))) a ⌝ }
 {
+    let orders = orders::count(s.orders);
     let mut t = s;
-    t.accepted = s.accepted + 1;
-    t.next = next;
-    t.reach = reach;
+    t.orders = orders;
+    t.staging = a;
+    t
+}
+
+// A command that waits for the close.
+fn keep_waiting(s: State, c: Command) -> State
+    requires { ⌜ (s .orders .waiters < mostCommands) × (s .orders .accepted < mostCommands) ⌝ }
+    ensures { λ r. ⌜ r ≡ withOrders s (pushed (s .orders) c) ⌝ }
+{
+    let orders = orders::push(s.orders, c);
+    let mut t = s;
+    t.orders = orders;
     t
 }
 
 // What an accepted line makes of the state.
 fn after_line(s: State, l: Line) -> State
     requires { ⌜ withinLimits s ≡ true ⌝ }
-    requires { ⌜ lineCause (loadWaits s) (commandsFull s) l ≡ 0 ⌝ }
-    ensures { λ r. ⌜ r ≡ stateAfter s l ⌝ }
+    requires { ⌜ numberBy (commandChecks (loadWaits (s .orders)) (commandsFull (s .orders)) l) ≡ 0 ⌝ }
+    ensures { λ r. ⌜ r ≡ stateTold s l ⌝ }
 {
     match l {
         Line::Empty => s,
         Line::Wrong => s,
-        Line::Waits(c) => push(s, c),
-        Line::LoadZero => set_addresses(s, 0, 0),
-        Line::LoadAt(a) => set_addresses(s, a, s.reach),
+        Line::Waits(c) => keep_waiting(s, c),
+        Line::LoadZero => set_addresses(s, load::staging::fresh_addresses()),
+        Line::LoadAt(a) => set_addresses(
+            s,
+            Addresses {
+                next: a,
+                reach: s.staging.reach,
+            },
+        ),
     }
 }
 
 // The echo of an accepted line.
-fn echo_accepted(s: State, line: &[u8], echo: &mut [u8])
+fn echo_told(frame: u16, accepted: usize, line: &[u8], echo: &mut [u8])
     requires { ⌜ (length (now echo) ≡ echoBytes) × (length (now line) ≤ 80) ⌝ }
-    requires { ⌜ s .accepted ≤ mostCommands ⌝ }
-    ensures { λ _. ⌜ now (echo .exit) ≡ acceptedEchoFor s (now (line .entry)) ⌝ }
+    requires { ⌜ accepted ≤ mostCommands ⌝ }
+    ensures { λ _. ⌜ now (echo .exit) ≡ toldEcho frame accepted (now (line .entry)) ⌝ }
 {
     if line.len() == 0 {
         command::echo::write_prompt(echo);
     } else {
-        command::echo::write_accepted(echo, s.frame, s.accepted as u8, line);
+        command::echo::write_accepted(echo, frame, accepted as u8, line);
     }
 }
 
@@ -106,46 +94,37 @@ fn echo_accepted(s: State, line: &[u8], echo: &mut [u8])
 fn take_line(state: State, line: &[u8], echo: &mut [u8]) -> Answer
     requires { ⌜ (length (now echo) ≡ echoBytes) × (length (now line) ≤ 80) ⌝ }
     requires { ⌜ (withinLimits state ≡ true) × (bytesOk (now line) ≡ true) ⌝ }
-    ensures answer { λ r. ⌜ r ≡ lineAnswer state (now (line .entry)) (now (echo .entry)) ⌝ }
-    ensures echo { λ r. ⌜ now (echo .exit) ≡ lineEcho state (now (line .entry)) (now (echo .entry)) ⌝ }
+    ensures answer { λ r. ⌜ r ≡ lineDone state (now (line .entry)) (now (echo .entry)) .answer ⌝ }
+    ensures echo { λ r. ⌜ now (echo .exit) ≡ lineDone state (now (line .entry)) (now (echo .entry)) .echo ⌝ }
 {
-    let asked = command::line::parse(line, state.reach);
-    let waits = load_waits(state);
-    let number = line_cause(waits, state::MOST_COMMANDS <= state.accepted, asked);
-    if number != crate::CARRIED_OUT {
+    let asked = command::line::parse(line, state.staging.reach);
+    let waits = orders::load_waits(state.orders);
+    let full = orders::full(state.orders);
+    let number = command_number(waits, full, asked);
+    if number != causes::CARRIED_OUT {
         command::echo::write_refused(echo, line);
         return Answer { number, state };
     }
-    echo_accepted(state, line, echo);
+    echo_told(state.frame, state.orders.accepted, line, echo);
     let after = after_line(state, asked);
     Answer {
-        number: crate::CARRIED_OUT,
+        number: causes::CARRIED_OUT,
         state: after,
     }
 }
 
-// One command line: 1, 4, 5, 6, 7, the lowest that applies, or 0.
+// One command line: 1, 4, 5, 6, 7, or 0 with the command waiting or carried out.
 pub fn line(state: State, line: &[u8], echo: &mut [u8]) -> Answer
-    ensures answer { λ r. ⌜ r ≡ lineAnswer state (now (line .entry)) (now (echo .entry)) ⌝ }
-    ensures echo { λ r. ⌜ now (echo .exit) ≡ lineEcho state (now (line .entry)) (now (echo .entry)) ⌝ }
+    ensures answer { λ r. ⌜ r ≡ lineDone state (now (line .entry)) (now (echo .entry)) .answer ⌝ }
+    ensures echo { λ r. ⌜ now (echo .exit) ≡ lineDone state (now (line .entry)) (now (echo .entry)) .echo ⌝ }
 {
-    if echo.len() != command::echo::ECHO_BYTES {
-        return Answer {
-            number: crate::WRONG_BUFFER_OR_STATE,
-            state,
-        };
-    }
-    if !state::limits::within_limits(state) {
-        return Answer {
-            number: crate::WRONG_BUFFER_OR_STATE,
-            state,
-        };
-    }
-    if !command::line::bytes_ok(line) {
-        return Answer {
-            number: crate::LINE_BYTES,
-            state,
-        };
+    let limits = state::limits::within_limits(state);
+    let sound = limits & (echo.len() == command::echo::ECHO_BYTES);
+    let bytes = command::line::bytes_ok(line);
+    let other = unless(bytes, causes::LINE_BYTES, causes::CARRIED_OUT);
+    let number = unless(sound, causes::BUFFER_OR_STATE, other);
+    if number != causes::CARRIED_OUT {
+        return Answer { number, state };
     }
     take_line(state, line, echo)
 }

@@ -3,72 +3,70 @@ ghost use mathlib.Core.Path.{_≡_};
 ghost use mathlib.Core.Bool.{true};
 ghost use Prim.Native.Nat.{_<_};
 ghost use Rattle.wire.specs.Lists.{EachBelow};
-ghost use Rattle.state.specs.Limits.{mostReadings, withinLimits};
-ghost use Rattle.processor.specs.Reading.{readingNumber, addedTotals, stateRead, readingAnswer};
+ghost use Rattle.state.specs.Interval.{mostReadings, withReading};
+ghost use Rattle.state.specs.Limits.{withinLimits};
+ghost use Rattle.state.specs.State.{withInterval};
+ghost use Rattle.processor.specs.Reading.{readingNumber, addedTotals, readingDone};
 use crate::Answer;
+use causes::unless;
 use state::State;
+use state::interval::MOST_READINGS;
+use wire::bits::wide16;
 
-// The call's number: 1, 3, the lower that applies, or 0.
+// A reading has as many counts as there are totals.
+const TOTALS: usize = 8;
+
+// The call's number.
 fn reading_number(s: State) -> u8
     ensures { λ r. ⌜ r ≡ readingNumber s ⌝ }
 {
-    if !state::limits::within_limits(s) {
-        return crate::WRONG_BUFFER_OR_STATE;
-    }
-    if s.readings < state::MOST_READINGS {
-        crate::CARRIED_OUT
-    } else {
-        crate::INTERVAL_FULL
-    }
-}
-
-fn wide(n: u16) -> u32
-    ensures { λ r. ⌜ (r ≡ n) × (r < 65536) ⌝ }
-{
-    n as u32
+    let limits = state::limits::within_limits(s);
+    let room = s.interval.readings < MOST_READINGS;
+    let full = unless(room, causes::INTERVAL_FULL, causes::CARRIED_OUT);
+    unless(limits, causes::BUFFER_OR_STATE, full)
 }
 
 // Each count added to its total.
 fn added(totals: [u32; 8], counts: [u16; 8]) -> [u32; 8]
-    requires { ⌜ EachBelow 4000000000 totals ⌝ }
+    requires { ⌜ EachBelow 4000000 totals ⌝ }
     ensures { λ r. ⌜ r ≡ addedTotals totals counts ⌝ }
 {
-    [
-        totals[0] + wide(counts[0]),
-        totals[1] + wide(counts[1]),
-        totals[2] + wide(counts[2]),
-        totals[3] + wide(counts[3]),
-        totals[4] + wide(counts[4]),
-        totals[5] + wide(counts[5]),
-        totals[6] + wide(counts[6]),
-        totals[7] + wide(counts[7]),
-    ]
+    let mut sums = totals;
+    let mut i: usize = 0;
+    while i < TOTALS {
+        let sum = totals[i] + wide16(counts[i]);
+        sums[i] = sum;
+        i += 1;
+    }
+    sums
 }
 
 // The state with one reading more.
 fn take_reading(s: State, counts: [u16; 8]) -> State
-    requires { ⌜ (withinLimits s ≡ true) × (s .readings < mostReadings) ⌝ }
-    ensures { λ r. ⌜ r ≡ stateRead s counts ⌝ }
+    requires { ⌜ (withinLimits s ≡ true) × (s .interval .readings < mostReadings) ⌝ }
+    ensures { λ r. ⌜ r ≡ withInterval s (withReading (s .interval) (addedTotals (s .interval .totals) counts)) ⌝ }
 {
-    let before = s.totals;
+    let mut i = s.interval;
+    let before = i.totals;
     let totals = added(before, counts);
+    i.readings = i.readings + 1;
+    i.totals = totals;
     let mut t = s;
-    t.readings = s.readings + 1;
-    t.totals = totals;
+    t.interval = i;
     t
 }
 
 // One second reading: 1, 3, or 0 with the readings and their totals.
 pub fn reading(state: State, counts: [u16; 8]) -> Answer
-    ensures { λ r. ⌜ r ≡ readingAnswer state counts ⌝ }
+    ensures { λ r. ⌜ r ≡ readingDone state counts ⌝ }
 {
     let number = reading_number(state);
-    if number != crate::CARRIED_OUT {
+    if number != causes::CARRIED_OUT {
         return Answer { number, state };
     }
     let after = take_reading(state, counts);
     Answer {
-        number: crate::CARRIED_OUT,
+        number: causes::CARRIED_OUT,
         state: after,
     }
 }

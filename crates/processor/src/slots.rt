@@ -3,8 +3,8 @@ ghost use mathlib.Core.Path.{_≡_};
 ghost use lib.ListN.{length};
 ghost use Rattle.wire.specs.Bytes.{zeros};
 ghost use Rattle.wire.specs.Lists.{all};
+ghost use Rattle.sample_record.specs.Record.{recordGood};
 ghost use Rattle.sort.specs.Samples.{filled};
-ghost use Rattle.packet.specs.Read.{recordGood};
 
 // Whether each slot is zero or holds a record of box 6 to 116, without early exit so that the scan vectorises.
 pub fn all_good(slots: &[u32]) -> bool
@@ -13,7 +13,7 @@ pub fn all_good(slots: &[u32]) -> bool
     let mut ok = true;
     let mut i: usize = 0;
     while i < slots.len() {
-        ok = ok & packet::faults::record_good(slots[i]);
+        ok = ok & sample_record::record_good(slots[i]);
         i += 1;
     }
     ok

@@ -1,2 +1,2 @@
--- Laws that the proofs cite.
+-- Laws of records.
 mod RecordLaws

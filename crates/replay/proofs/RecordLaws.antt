@@ -1,8 +1,9 @@
--- Laws of replay's records. Assumes nothing.
+-- A body stands behind its head, and has the length of its kind or the one in its head. Assumes nothing.
 use mathlib.Core.Path.{_≡_, refl, sym, ap, _∙_}
 use mathlib.Core.Bool.{true, false, false≢true}
 use mathlib.Core.List.{List}
 use Prim.Native.Nat.{ℕ, _+_, _-_, _≤_}
+use native.Mathlib.Nat.{add-assoc}
 use native.Mathlib.Omega.{arith}
 use lib.ListN.{getD}
 use Rattle.wire.specs.Bytes.{at16}
@@ -12,7 +13,7 @@ use Rattle.stream.specs.Record.{LongAs, FoundIn, IsOf}
 use Rattle.stream.specs.declared.record.Next.{Next}
 use Rattle.stream.specs.declared.record.Next.the-variants.{End, Bad, Record}
 use Rattle.stream.proofs.InputLaws.{byte-same}
-use Rattle.replay.specs.Record.{isCounted, headOf, BodyLong}
+use Rattle.replay.specs.Record.{isCounted, BodyLong}
 
 module _ (kind : ℕ) where
   -- a kind whose body has its length in front is none of those whose body has a length of its own
@@ -22,32 +23,24 @@ module _ (kind : ℕ) where
       other : (k : ℕ) → kind ≡ k → isCounted k ≡ false → ⊥
       other k e q = false≢true (sym q ∙ ap isCounted (sym e) ∙ h)
 
-  pub head-three : isCounted kind ≡ true → 3 ≡ headOf kind
-  head-three h = rw h
-
-  pub head-one : isCounted kind ≡ false → 1 ≡ headOf kind
-  head-one h = rw h
-
 -- a body of a length of its own
-pub own-long : (k n : ℕ) (r : Next) (buffer : List ℕ) → isCounted k ≡ false → LongAs k n → IsOf k n r → BodyLong r buffer
+pub own-long : (k n : ℕ) (r : Next) (buffer : List ℕ) → isCounted k ≡ false → LongAs k n → IsOf k 1 n r → BodyLong r buffer
 own-long k n End buffer t l q = tt
 own-long k n Bad buffer t l q = tt
-own-long k n (Record kind from rest) buffer t l q =
-    (rw (q .0, q .1) l, λ h. absurd (false≢true (sym t ∙ ap isCounted (sym (q .0)) ∙ h)))
+own-long k n (Record kind start from rest) buffer t l q =
+    let is : isCounted kind ≡ false = ap isCounted (q .0) ∙ t in
+    (rw is (q .1), rw (q .0, q .2) l, λ h. absurd (false≢true (sym is ∙ h)))
 
 -- a body whose length was read where the bytes at i waited, one byte behind the first
 pub counted-body : (k n : ℕ) (r : Next) (i : Input) (b buffer : List ℕ) → isCounted k ≡ true → Held i b → 3 ≤ i .end - i .at
-    → n ≡ at16 b (i .at + 1) → IsOf k n r → FoundIn (λ _. 3) r (waitingIn i b) buffer → BodyLong r buffer
+    → n ≡ at16 b (i .at + 1) → IsOf k 3 n r → FoundIn r (waitingIn i b) buffer → BodyLong r buffer
 counted-body k n End i b buffer t h g e q f = tt
 counted-body k n Bad i b buffer t h g e q f = tt
-counted-body k n (Record kind from rest) i b buffer t h g e q f =
-    let j : Input = record { at = from - 3; end = rest .end } in
-    let held : Held j buffer = (omega (arith, f .0, f .1, f .2), f .2 .1) in
-    let same = byte-same i j b buffer h held (f .4) in
-    let e₁ : from - 3 + 1 ≡ from - 2 = omega (arith, f .0) in
-    let e₂ : from - 3 + 2 ≡ from - 2 + 1 = omega (arith, f .0) in
-    let z : i .at + 2 ≡ i .at + 1 + 1 = omega arith in
-    let first : getD buffer (from - 2) 0 ≡ getD b (i .at + 1) 0 = ap (λ (m : ℕ). getD buffer m 0) (sym e₁) ∙ same 1 (omega arith) in
-    let second : getD buffer (from - 2 + 1) 0 ≡ getD b (i .at + 1 + 1) 0 =
-    ap (λ (m : ℕ). getD buffer m 0) (sym e₂) ∙ same 2 (omega arith) ∙ ap (λ (m : ℕ). getD b m 0) z in
-    (counted-long kind _ (ap isCounted (q .0) ∙ t), λ _. q .1 ∙ e ∙ rw (first, second))
+counted-body k n (Record kind start from rest) i b buffer t h g e q f =
+    let j : Input = record { at = start; end = rest .end } in
+    let same = byte-same i j b buffer h (omega (arith, f .0, f .1, f .2), f .2 .1) (f .4) in
+    let first : getD buffer (start + 1) 0 ≡ getD b (i .at + 1) 0 = same 1 (omega arith) in
+    let second : getD buffer (start + 1 + 1) 0 ≡ getD b (i .at + 1 + 1) 0 =
+    rw (add-assoc start 1 1, add-assoc (i .at) 1 1) (same 2 (omega arith)) in
+    let is : isCounted kind ≡ true = ap isCounted (q .0) ∙ t in
+    (rw is (q .1), counted-long kind _ is, λ _. q .2 ∙ e ∙ rw (first, second))

@@ -2,7 +2,7 @@
 use mathlib.Core.Bool.{Bool, true, _||_, cond}
 use mathlib.Core.List.{List}
 use mathlib.Core.Path.{_≡_}
-use Prim.Native.Nat.{ℕ, _-_}
+use Prim.Native.Nat.{ℕ, _+_, _-_}
 use lib.Dec.{eqb}
 use Rattle.wire.specs.Bytes.{at16}
 use Rattle.stream.specs.Record.{LongAs, FoundIn}
@@ -16,12 +16,15 @@ isCounted kind = eqb kind 3 || eqb kind 5 || eqb kind 6
 abbrev pub headOf : ℕ → ℕ
 headOf kind = cond (isCounted kind) 3 1
 
--- the body of a record has the length of its kind, or the one in front of it
+-- the body of a record stands behind its head, and has the length of its kind, or the one that stands behind the kind byte
 abbrev pub BodyLong : Next → (buffer : List ℕ) → Type 0
 BodyLong End buffer = Unit {0}
 BodyLong Bad buffer = Unit {0}
-BodyLong (Record kind from rest) buffer = LongAs kind (rest .at - from) × (isCounted kind ≡ true → rest .at - from ≡ at16 buffer (from - 2))
+BodyLong (Record kind start from rest) buffer =
+    (start + headOf kind ≡ from)
+    × LongAs kind (rest .at - from)
+    × (isCounted kind ≡ true → rest .at - from ≡ at16 buffer (start + 1))
 
 -- the record that stands first where the bytes `old` wait
 abbrev pub FirstOf : Next → (old buffer : List ℕ) → Type 0
-FirstOf r old buffer = FoundIn headOf r old buffer × BodyLong r buffer
+FirstOf r old buffer = FoundIn r old buffer × BodyLong r buffer

@@ -58,7 +58,7 @@ fn package(
     text: &mut [u8],
     at: &mut usize,
 ) -> State {
-    let answer = processor::packages::package(state, body, staging, echo);
+    let answer = processor::load_package::package(state, body, staging, echo);
     stream::text::bytes(text, at, b"package");
     print_echo(text, at, answer.number, echo);
     answer.state
@@ -83,9 +83,9 @@ fn print_out(text: &mut [u8], at: &mut usize, packet: &[u8]) {
 // A line for each packet.
 fn print_packets(text: &mut [u8], at: &mut usize, packets: &[u8]) {
     let mut rest = packets;
-    while packet::header::PACKET_BYTES <= rest.len() {
-        print_out(text, at, &rest[0..packet::header::PACKET_BYTES]);
-        rest = &rest[packet::header::PACKET_BYTES..];
+    while packet::layout::PACKET_BYTES <= rest.len() {
+        print_out(text, at, &rest[0..packet::layout::PACKET_BYTES]);
+        rest = &rest[packet::layout::PACKET_BYTES..];
     }
 }
 
@@ -104,7 +104,7 @@ fn print_closed(text: &mut [u8], at: &mut usize, frame: u16, closed: Closed, pac
 fn print_close(text: &mut [u8], at: &mut usize, frame: u16, closed: Closed, packets: &[u8]) {
     stream::text::bytes(text, at, b"close");
     stream::text::number(text, at, closed.number as u64);
-    if closed.number == processor::CARRIED_OUT {
+    if closed.number == causes::CARRIED_OUT {
         print_closed(text, at, frame, closed, packets);
     } else {
         stream::text::line_end(text, at);
@@ -124,7 +124,7 @@ fn close(
     requires { ⌜ length (now body) ≡ 4 ⌝ }
 {
     let time = wire::read::u32_at(body, 0);
-    let mut packets = [0u8; processor::packets::OUT_BYTES];
+    let mut packets = [0u8; processor::close::OUT_BYTES];
     let closed = processor::close::close(state, time, tables, staging, slots, &mut packets);
     print_close(text, at, state.frame, closed, &packets);
     closed.state

@@ -34,7 +34,12 @@ fn step(
     match found {
         Next::End => stopped(state),
         Next::Bad => bad(state, text, at),
-        Next::Record { kind, from, rest } => {
+        Next::Record {
+            kind,
+            start: _,
+            from,
+            rest,
+        } => {
             let to = rest.at;
             let body = &buffer[from..to];
             let after = calls::carry_out(kind, state, tables, staging, slots, echo, body, text, at);

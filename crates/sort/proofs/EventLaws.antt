@@ -18,7 +18,7 @@ use Rattle.sort.specs.declared.sorting.Words.{Words}
 use Rattle.sort.specs.Columns.{uOf, massColumn, energyColumn, bounded}
 use Rattle.sort.specs.Event.{inRange, gainOf, channelOf}
 use Rattle.sort.specs.Matrix.{boxUsed, beaconUsed, matrixOf, cellOf}
-use Rattle.sort.specs.Sorting.{discards, wordsOf, located, placed, outcomeOf}
+use Rattle.sort.specs.Sorting.{discards, eventWords, located, inMatrix, outcomeOf}
 use Rattle.sort.specs.Counts.{CellNames, OutcomeNames}
 use Rattle.sort.specs.Samples.{boxOf}
 
@@ -64,10 +64,13 @@ located-names gain (Inside i) (Inside j) m = cell-names m i j
 located-names gain (Inside i) Outside m = tt
 located-names gain Outside b m = tt
 
-placed-names : (gain : Bool) (w : Words) (m : List ℕ) → OutcomeNames (placed gain w m)
-unfolding placed
-placed-names gain w m =
-    located-names gain (bounded (massColumn (uOf (w .energy) (w .k) (w .flight) (w .ktof)))) (bounded (energyColumn (w .flight) (w .ktof))) m
+in-matrix-names : (gain : Bool) (w : Words) (m : List ℕ) → OutcomeNames (inMatrix gain w m)
+unfolding inMatrix
+in-matrix-names gain w m =
+    located-names gain
+    (bounded (massColumn (uOf (w .energy) (w .k) (w .flight) (w .ktof))))
+    (bounded (energyColumn (w .flight) (w .ktof)))
+    m
 
 or-discarded : (t : Bool) (o : Outcome) → OutcomeNames o → OutcomeNames (cond t Discarded o)
 or-discarded true o h = tt
@@ -76,7 +79,7 @@ or-discarded false o h = h
 -- every outcome names boxes and beacons that there are
 pub outcome-names : (s : Settings) (tables : List ℕ) (e : Event) → OutcomeNames (outcomeOf s tables e)
 unfolding outcomeOf
-outcome-names s tables e = or-discarded (discards s e) _ (placed-names (gainOf e) (wordsOf tables e) (matrixOf tables))
+outcome-names s tables e = or-discarded (discards s e) _ (in-matrix-names (gainOf e) (eventWords tables e) (matrixOf tables))
 
 -- an outcome's box is from 5 to 116
 pub box-from : (o : Outcome) → OutcomeNames o → 5 ≤ boxOf o

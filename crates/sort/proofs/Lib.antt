@@ -5,3 +5,4 @@ pub mod EventLaws
 pub mod MachineDivision
 pub mod RecordLaws
 pub mod SampleLaws
+pub mod TalliedLaws

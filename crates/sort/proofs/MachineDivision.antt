@@ -1,6 +1,6 @@
 -- Signed numbers in the machine: division rounded down by a test of the sign, and the cast of a column. Assumes nothing.
 use mathlib.Core.Path.{_≡_, refl, sym, ap, _∙_, subst}
-use Prim.Native.Nat.{ℕ, _-_, _/_, _≤_, _<_}
+use Prim.Native.Nat.{ℕ, zero, suc, _-_, _/_, _≤_, _<_}
 use native.Mathlib.Nat.{div-le-self, lt-of-le-of-lt, lt-of-lt-of-le}
 use native.Mathlib.Omega.{arith}
 use lib.IntN.{ℤ, pos, negsuc, natAbs, _-ℤ_}
@@ -14,7 +14,7 @@ use mir.ValLaws.{toZ-ofZ}
 use Rattle.sort.specs.declared.columns.Column.{Column}
 use Rattle.sort.specs.declared.columns.Column.the-variants.{Inside, Outside}
 use Rattle.sort.specs.Columns.{floorZ, bounded}
-use Rattle.sort.proofs.ColumnLaws.{less-pos, less-neg}
+use Rattle.sort.proofs.ColumnLaws.{less-pos, less-neg, sub-below}
 
 -- what the machine reads back
 abbrev back : ℤ → ℤ
@@ -25,6 +25,10 @@ div-fits a b f = record { sfits = lt-of-le-of-lt (div-le-self a b) (f .sfits) }
 
 lt-irrefl0 : (a : ℕ) → pos a <ℤ pos 0 → ⊥
 lt-irrefl0 a h = let q : a < 0 = ltb→lt a 0 (h .lt) in omega arith
+
+neg-fits : (q : ℕ) → SFits w32 (pos q) → SFits w32 (pos 0 -ℤ pos q)
+neg-fits zero f = f
+neg-fits (suc q) f = rw (sub-below 0 (suc q) (omega arith)) record { sfits = omega (arith, f .sfits) }
 
 -- a negative n
 module _ (a b : ℕ) (fn : SFits w32 (negsuc a)) (fd : SFits w32 (pos b)) where
@@ -51,40 +55,42 @@ module _ (a b : ℕ) (fn : SFits w32 (negsuc a)) (fd : SFits w32 (pos b)) where
   again-fits : SFits w32 (negsuc 0 -ℤ back (quotZ (back (negsuc 0 -ℤ back (negsuc a))) (back (pos b))))
   again-fits = subst (λ (z : ℤ). SFits w32 z) (sym again) record { sfits = div-fits a b fa .sfits }
 
--- the parts, at any n below 0 and d above 0
-pub flip-ok : (n : ℤ) → SFits w32 n → n <ℤ pos 0 → SFits w32 (negsuc 0 -ℤ back n)
-flip-ok (pos a) fn h = absurd (lt-irrefl0 a h)
-flip-ok (negsuc a) fn h = flip-fits a 1 fn record { sfits = lit< tt }
+  negated : SFits w32 (pos 0 -ℤ back (quotZ (back (negsuc 0 -ℤ back (negsuc a))) (back (pos b))))
+  negated = subst (λ (z : ℤ). SFits w32 (pos 0 -ℤ z)) (sym (toZ-ofZ w32 _ quot-fits ∙ quot)) (neg-fits (a / b) (div-fits a b fa))
 
-pub quot-ok : (n d : ℤ) → SFits w32 n → SFits w32 d → n <ℤ pos 0 → pos 1 ≤ℤ d → SFits w32 (quotZ (back (negsuc 0 -ℤ back n)) (back d))
-quot-ok (pos a) d fn fd h k = absurd (lt-irrefl0 a h)
-quot-ok (negsuc a) (pos b) fn fd h k = quot-fits a b fn fd
-quot-ok (negsuc a) (negsuc b) fn fd h k = absurd (k .le)
+-- every step of the division fits, and its result is the quotient rounded down: for an n below 0 and a d above 0
+pub record Below (n d : ℤ) : Type 0 where
+  pub turned : SFits w32 (negsuc 0 -ℤ back n)
+  pub divided : SFits w32 (quotZ (back (negsuc 0 -ℤ back n)) (back d))
+  pub turned-back : SFits w32 (negsuc 0 -ℤ back (quotZ (back (negsuc 0 -ℤ back n)) (back d)))
+  -- 0 less the quotient would fit as well: what tells -1 from 0 there is the value, below
+  pub negative : SFits w32 (pos 0 -ℤ back (quotZ (back (negsuc 0 -ℤ back n)) (back d)))
+  pub rounded : back (negsuc 0 -ℤ back (quotZ (back (negsuc 0 -ℤ back n)) (back d))) ≡ floorZ n (natAbs d)
 
-pub again-ok : (n d : ℤ) → SFits w32 n → SFits w32 d → n <ℤ pos 0 → pos 1 ≤ℤ d → SFits w32 (negsuc 0 -ℤ back (quotZ (back (negsuc 0 -ℤ back n)) (back d)))
-again-ok (pos a) d fn fd h k = absurd (lt-irrefl0 a h)
-again-ok (negsuc a) (pos b) fn fd h k = again-fits a b fn fd
-again-ok (negsuc a) (negsuc b) fn fd h k = absurd (k .le)
+pub below : (n d : ℤ) → SFits w32 n → SFits w32 d → n <ℤ pos 0 → pos 1 ≤ℤ d → Below n d
+below (pos a) d fn fd h k = absurd (lt-irrefl0 a h)
+below (negsuc a) (pos b) fn fd h k = record {
+  turned = flip-fits a b fn fd;
+  divided = quot-fits a b fn fd;
+  turned-back = again-fits a b fn fd;
+  negative = negated a b fn fd;
+  rounded = toZ-ofZ w32 _ (again-fits a b fn fd) ∙ again a b fn fd;
+}
+below (negsuc a) (negsuc b) fn fd h k = absurd (k .le)
 
-pub floor-neg : (n d : ℤ) → SFits w32 n → SFits w32 d → n <ℤ pos 0 → pos 1 ≤ℤ d
-    → back (negsuc 0 -ℤ back (quotZ (back (negsuc 0 -ℤ back n)) (back d))) ≡ floorZ n (natAbs d)
-floor-neg (pos a) d fn fd h k = absurd (lt-irrefl0 a h)
-floor-neg (negsuc a) (pos b) fn fd h k = toZ-ofZ w32 _ (again-fits a b fn fd) ∙ again a b fn fd
-floor-neg (negsuc a) (negsuc b) fn fd h k = absurd (k .le)
+-- for an n from 0 on
+pub record From0 (n d : ℤ) : Type 0 where
+  pub divided : SFits w32 (quotZ (back n) (back d))
+  pub rounded : back (quotZ (back n) (back d)) ≡ floorZ n (natAbs d)
 
--- a number from 0 on
-pos-quot : (a b : ℕ) → SFits w32 (pos a) → SFits w32 (pos b) → quotZ (back (pos a)) (back (pos b)) ≡ pos (a / b)
-pos-quot a b fn fd = ap (λ (z : ℤ). quotZ z (back (pos b))) (toZ-ofZ w32 (pos a) fn) ∙ ap (λ (z : ℤ). quotZ (pos a) z) (toZ-ofZ w32 (pos b) fd)
-
-pub pos-ok : (n d : ℤ) → SFits w32 n → SFits w32 d → pos 0 ≤ℤ n → pos 1 ≤ℤ d → SFits w32 (quotZ (back n) (back d))
-pos-ok (pos a) (pos b) fn fd h k = subst (λ (z : ℤ). SFits w32 z) (sym (pos-quot a b fn fd)) (div-fits a b fn)
-pos-ok (pos a) (negsuc b) fn fd h k = absurd (k .le)
-pos-ok (negsuc a) d fn fd h k = absurd (h .le)
-
-pub floor-pos : (n d : ℤ) → SFits w32 n → SFits w32 d → pos 0 ≤ℤ n → pos 1 ≤ℤ d → back (quotZ (back n) (back d)) ≡ floorZ n (natAbs d)
-floor-pos (pos a) (pos b) fn fd h k = toZ-ofZ w32 _ (pos-ok (pos a) (pos b) fn fd h k) ∙ pos-quot a b fn fd
-floor-pos (pos a) (negsuc b) fn fd h k = absurd (k .le)
-floor-pos (negsuc a) d fn fd h k = absurd (h .le)
+pub from-0 : (n d : ℤ) → SFits w32 n → SFits w32 d → pos 0 ≤ℤ n → pos 1 ≤ℤ d → From0 n d
+from-0 (pos a) (pos b) fn fd h k =
+    let e : quotZ (back (pos a)) (back (pos b)) ≡ pos (a / b) =
+    ap (λ (z : ℤ). quotZ z (back (pos b))) (toZ-ofZ w32 (pos a) fn) ∙ ap (λ (z : ℤ). quotZ (pos a) z) (toZ-ofZ w32 (pos b) fd) in
+    let f = subst (λ (z : ℤ). SFits w32 z) (sym e) (div-fits a b fn) in
+    record { divided = f; rounded = toZ-ofZ w32 _ f ∙ e }
+from-0 (pos a) (negsuc b) fn fd h k = absurd (k .le)
+from-0 (negsuc a) d fn fd h k = absurd (h .le)
 
 -- the divisor is not 0
 pub above-zero : (d : ℤ) → pos 1 ≤ℤ d → 0 < ofZ w32 d

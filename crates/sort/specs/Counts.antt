@@ -16,10 +16,17 @@ gainBox gain = cond gain 4 3
 abbrev pub priorityBox : Bool → ℕ
 priorityBox priority = cond priority 2 1
 
+-- rule 1: "box 5, discarded"; rule 4: "box 6"
+abbrev pub discardedBox : ℕ
+discardedBox = 5
+
+abbrev pub outOfBoundsBox : ℕ
+outOfBoundsBox = 6
+
 -- the boxes that one event counts in
 abbrev pub boxesOf : Outcome → List ℕ
-boxesOf Discarded = 5 ∷ []
-boxesOf (OutOfBounds gain) = gainBox gain ∷ 6 ∷ []
+boxesOf Discarded = discardedBox ∷ []
+boxesOf (OutOfBounds gain) = gainBox gain ∷ outOfBoundsBox ∷ []
 boxesOf (InCell gain cell) = gainBox gain ∷ priorityBox (cell .priority) ∷ cell .ratebox ∷ []
 
 -- the beacons that one event counts in: one or none

@@ -3,5 +3,4 @@ pub mod Columns
 pub mod Matrix
 pub mod Sorting
 pub mod Counts
-pub mod Record
 pub mod Samples

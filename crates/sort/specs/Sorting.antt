@@ -19,8 +19,8 @@ abbrev pub discards : Settings → Event → Bool
 discards s e = (not (e .stop) && not (s .eonly)) || (e .error && not (s .toferror))
 
 -- rule 2: at gain 0 "E and K from the high table and Khi", at gain 1 "low table and Klo"; rule 3: "T is time-of-flight word t"
-unfoldable pub wordsOf : List ℕ → Event → Words
-wordsOf tables e = record {
+unfoldable pub eventWords : List ℕ → Event → Words
+eventWords tables e = record {
   energy = cond (gainOf e) (wordAt tables (lowGain + e .low)) (wordAt tables (highGain + e .high));
   k = cond (gainOf e) (wordAt tables klo) (wordAt tables khi);
   flight = wordAt tables (timeOfFlight + e .t);
@@ -38,8 +38,8 @@ located gain (Inside m) Outside matrix = OutOfBounds gain
 located gain Outside c matrix = OutOfBounds gain
 
 -- rule 3: the two columns of the words
-unfoldable pub placed : (gain : Bool) (w : Words) (matrix : List ℕ) → Outcome
-placed gain w matrix =
+unfoldable pub inMatrix : (gain : Bool) (w : Words) (matrix : List ℕ) → Outcome
+inMatrix gain w matrix =
     located gain
     (bounded (massColumn (uOf (w .energy) (w .k) (w .flight) (w .ktof))))
     (bounded (energyColumn (w .flight) (w .ktof)))
@@ -47,4 +47,4 @@ placed gain w matrix =
 
 -- rules 1 to 5
 unfoldable pub outcomeOf : Settings → (tables : List ℕ) → Event → Outcome
-outcomeOf s tables e = cond (discards s e) Discarded (placed (gainOf e) (wordsOf tables e) (matrixOf tables))
+outcomeOf s tables e = cond (discards s e) Discarded (inMatrix (gainOf e) (eventWords tables e) (matrixOf tables))

@@ -3,6 +3,8 @@ ghost use mathlib.Core.Path.{_≡_};
 ghost use Prim.Native.Nat.{_≤_};
 ghost use Rattle.wire.specs.Lists.{EachBelow};
 ghost use Rattle.sort.specs.Counts.{CellNames, OutcomeNames, withBox, withBeacon, gainBox, priorityBox, countedOf};
+use crate::boxes::DISCARDED_BOX;
+use crate::boxes::OUT_OF_BOUNDS_BOX;
 use crate::matrix::Cell;
 use crate::sorting::Outcome;
 
@@ -12,46 +14,61 @@ pub struct Counts {
     pub beacons: [u32; 12],
 }
 
-pub const DISCARDED_BOX: usize = 5;
-
-pub const OUT_OF_BOUNDS_BOX: usize = 6;
-
 // Boxes 3 and 4 count the events of each gain.
-fn gain_box(gain: bool) -> usize
+fn gain_box(gain: bool) -> u8
     ensures { λ r. ⌜ (r ≡ gainBox gain) × (3 ≤ r) × (r ≤ 4) ⌝ }
 {
     if gain { 4 } else { 3 }
 }
 
 // Boxes 1 and 2 count the events of each priority.
-fn priority_box(priority: bool) -> usize
+fn priority_box(priority: bool) -> u8
     ensures { λ r. ⌜ (r ≡ priorityBox priority) × (1 ≤ r) × (r ≤ 2) ⌝ }
 {
     if priority { 2 } else { 1 }
 }
 
 // One more in box b.
-fn with_box(c: Counts, b: usize) -> Counts
+fn with_box(c: Counts, b: u8) -> Counts
     requires { ⌜ (1 ≤ b) × (b ≤ 116) ⌝ }
     requires { ⌜ EachBelow 4294967295 (c .boxes) ⌝ }
     ensures { λ r. ⌜ r ≡ withBox c b ⌝ }
 {
     let mut d = c;
-    let i = b - 1;
+    let i = b as usize - 1;
     let n = d.boxes[i];
     d.boxes[i] = n + 1;
     d
 }
 
+// One more in each of three boxes. In one function the compiled program copies the counts once.
+fn with_boxes(c: Counts, x: u8, y: u8, z: u8) -> Counts
+    requires { ⌜ (1 ≤ x) × (x ≤ 116) × (1 ≤ y) × (y ≤ 116) × (1 ≤ z) × (z ≤ 116) ⌝ }
+    requires { ⌜ EachBelow 1000000 (c .boxes) ⌝ }
+    ensures { λ r. ⌜ r ≡ withBox (withBox (withBox c x) y) z ⌝ }
+{
+    let mut d = c;
+    let i = x as usize - 1;
+    let a = d.boxes[i];
+    d.boxes[i] = a + 1;
+    let j = y as usize - 1;
+    let b = d.boxes[j];
+    d.boxes[j] = b + 1;
+    let k = z as usize - 1;
+    let n = d.boxes[k];
+    d.boxes[k] = n + 1;
+    d
+}
+
 // One more in the beacon, if it is one of 1 to 12 and not 0.
-fn with_beacon(c: Counts, beacon: usize) -> Counts
+fn with_beacon(c: Counts, beacon: u8) -> Counts
     requires { ⌜ beacon ≤ 12 ⌝ }
     requires { ⌜ EachBelow 4294967295 (c .beacons) ⌝ }
     ensures { λ r. ⌜ r ≡ withBeacon c beacon ⌝ }
 {
     let mut d = c;
     if 1 <= beacon {
-        let i = beacon - 1;
+        let i = beacon as usize - 1;
         let n = d.beacons[i];
         d.beacons[i] = n + 1;
     }
@@ -65,10 +82,8 @@ fn counted_cell(c: Counts, gain: bool, cell: Cell) -> Counts
     requires { ⌜ EachBelow 1000000 (c .beacons) ⌝ }
     ensures { λ r. ⌜ r ≡ countedOf c (Outcome.InCell gain cell) ⌝ }
 {
-    let d = with_box(c, gain_box(gain));
-    let f = with_box(d, priority_box(cell.priority));
-    let g = with_box(f, cell.ratebox as usize);
-    with_beacon(g, cell.beacon as usize)
+    let d = with_boxes(c, gain_box(gain), priority_box(cell.priority), cell.ratebox);
+    with_beacon(d, cell.beacon)
 }
 
 // One more in each box and beacon that the rules name.

@@ -3,6 +3,8 @@ ghost use mathlib.Core.Path.{_≡_};
 ghost use Prim.Native.Nat.{_+_, _*_, _≤_, _<_};
 ghost use lib.ListN.{length};
 ghost use Rattle.sort.specs.Matrix.{matrixBytes, cellOf, boxUsed, beaconUsed};
+use crate::boxes::JUNK_BOX;
+use sample_record::LAST_BOX;
 
 // What a cell says: a rate box from 7 to 116, the priority, and a beacon from 1 to 12, or 0 for none.
 pub struct Cell {
@@ -12,10 +14,6 @@ pub struct Cell {
 }
 
 pub const COLUMNS: usize = 128;
-
-pub const JUNK_BOX: u8 = 7;
-
-pub const LAST_BOX: u8 = 116;
 
 pub const LAST_BEACON: u8 = 12;
 

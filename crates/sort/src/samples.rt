@@ -5,23 +5,21 @@ ghost use Prim.Native.Nat.{_<_};
 ghost use Rattle.sort.specs.Counts.{OutcomeNames};
 ghost use Rattle.sort.specs.Event.{inRange};
 ghost use Rattle.sort.specs.Samples.{boxOf, priorityOf, eligible, eventRecord};
+use crate::boxes::DISCARDED_BOX;
+use crate::boxes::FIRST_ELIGIBLE_BOX;
+use crate::boxes::OUT_OF_BOUNDS_BOX;
 use crate::event;
 use crate::event::Event;
-use crate::record;
-use crate::record::Sample;
 use crate::sorting::Outcome;
-
-pub const FIRST_ELIGIBLE_BOX: u8 = 8;
-
-pub const FIRST_JUNK_BOX: u8 = 6;
+use sample_record::Sample;
 
 // The box of an outcome.
 pub fn box_of(o: Outcome) -> u8
     ensures { λ r. ⌜ r ≡ boxOf o ⌝ }
 {
     match o {
-        Outcome::Discarded => 5,
-        Outcome::OutOfBounds(_) => 6,
+        Outcome::Discarded => DISCARDED_BOX,
+        Outcome::OutOfBounds(_) => OUT_OF_BOUNDS_BOX,
         Outcome::InCell(_, cell) => cell.ratebox,
     }
 }
@@ -42,7 +40,7 @@ pub fn eligible(junk: bool, o: Outcome) -> bool
     ensures { λ r. ⌜ r ≡ eligible junk o ⌝ }
 {
     let b = box_of(o);
-    (FIRST_ELIGIBLE_BOX <= b) | (junk & (FIRST_JUNK_BOX <= b))
+    (FIRST_ELIGIBLE_BOX <= b) | (junk & (OUT_OF_BOUNDS_BOX <= b))
 }
 
 // The record of an event.
@@ -51,7 +49,7 @@ pub fn record_of(e: Event, o: Outcome) -> u32
     requires { ⌜ OutcomeNames o ⌝ }
     ensures { λ r. ⌜ r ≡ eventRecord e o ⌝ }
 {
-    record::pack(Sample {
+    sample_record::pack(Sample {
         t: e.t,
         channel: event::channel(e),
         flg0: e.flg0,

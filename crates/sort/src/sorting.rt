@@ -6,7 +6,7 @@ ghost use Rattle.tables.specs.Tables.{tableBytes};
 ghost use Rattle.sort.specs.Columns.{bounded};
 ghost use Rattle.sort.specs.Event.{inRange};
 ghost use Rattle.sort.specs.Matrix.{matrixBytes};
-ghost use Rattle.sort.specs.Sorting.{WordsBelow, discards, wordsOf, located, placed, outcomeOf};
+ghost use Rattle.sort.specs.Sorting.{WordsBelow, discards, eventWords, located, inMatrix, outcomeOf};
 use crate::columns;
 use crate::columns::Column;
 use crate::event;
@@ -38,10 +38,10 @@ pub fn discards(s: Settings, e: Event) -> bool
 }
 
 // Rule 2, and T of rule 3: the words, by the gain.
-fn words_of(tables: &[u8], e: Event) -> Words
+fn event_words(tables: &[u8], e: Event) -> Words
     requires { ⌜ length (now tables) ≡ tableBytes ⌝ }
     requires { ⌜ inRange e ≡ true ⌝ }
-    ensures { λ r. ⌜ (r ≡ wordsOf (now (tables .entry)) e) × WordsBelow 16777216 r ⌝ }
+    ensures { λ r. ⌜ (r ≡ eventWords (now (tables .entry)) e) × WordsBelow 16777216 r ⌝ }
 {
     let t = e.t as usize;
     let flight = tables::word(tables, tables::TIME_OF_FLIGHT + t);
@@ -85,10 +85,10 @@ fn located(gain: bool, mass: i32, energy: i32, matrix: &[u8]) -> Outcome
 }
 
 // Rules 3 to 5.
-fn placed(gain: bool, w: Words, matrix: &[u8]) -> Outcome
+fn in_matrix(gain: bool, w: Words, matrix: &[u8]) -> Outcome
     requires { ⌜ length (now matrix) ≡ matrixBytes ⌝ }
     requires { ⌜ WordsBelow 16777216 w ⌝ }
-    ensures { λ r. ⌜ r ≡ placed gain w (now (matrix .entry)) ⌝ }
+    ensures { λ r. ⌜ r ≡ inMatrix gain w (now (matrix .entry)) ⌝ }
 {
     let mass = columns::mass_column(w.energy, w.k, w.flight, w.ktof);
     let energy = columns::energy_column(w.flight, w.ktof);
@@ -105,6 +105,6 @@ pub fn outcome_of(s: Settings, tables: &[u8], e: Event) -> Outcome
         return Outcome::Discarded;
     }
     let gain = event::gain(e);
-    let w = words_of(tables, e);
-    placed(gain, w, &tables[tables::MATRIX_START..tables::MATRIX_END])
+    let w = event_words(tables, e);
+    in_matrix(gain, w, &tables[tables::MATRIX_START..tables::MATRIX_END])
 }

@@ -7,10 +7,11 @@ ghost use mathlib.Core.Bool.{true};
 ghost use Rattle.sort.specs.Event.{inRange};
 ghost use Rattle.tables.specs.Tables.{tableBytes};
 use libc::STDOUT_FILENO;
+use sample_record::Sample;
 use settings::Settings;
 use sort::counts::Counts;
 use sort::event::Event;
-use sort::record::Sample;
+use sort::slots::SlotUse;
 
 // Each event: t, high, low, flags (FLG0 1, FLG1 2, error 4, valid stop 8), settings (Eonly 1, toferror 2, junk 4).
 const EVENTS: [u16; 80] = [
@@ -239,7 +240,7 @@ fn show_events(tables: &[u8])
 
 // The record case of document 01, packed and unpacked.
 fn show_record() {
-    let word = sort::record::pack(Sample {
+    let word = sample_record::pack(Sample {
         t: 300,
         channel: 1000,
         flg0: false,
@@ -251,7 +252,7 @@ fn show_record() {
     });
     io::write_all(STDOUT_FILENO, b"record ");
     io::print_hex(STDOUT_FILENO, word as u64, 8);
-    let s = sort::record::unpack(word);
+    let s = sample_record::unpack(word);
     number(s.t as u64);
     number(s.channel as u64);
     flag(s.flg0);
@@ -267,17 +268,17 @@ fn show_record() {
 fn place_all(slots: &mut [u32], limhi: usize)
     requires { ⌜ limhi ≤ length (now slots) ⌝ }
 {
-    let mut used: usize = 0;
-    let mut replaced: usize = 0;
+    let mut kept = SlotUse {
+        used: 0,
+        replaced: 0,
+    };
     let mut i: u32 = 0;
     while i < 710 {
-        let p = sort::slots::place(slots, used, replaced, limhi, i + 1, i % 2 == 0);
-        used = p.used;
-        replaced = p.replaced;
+        kept = sort::slots::place(slots, kept, limhi, i + 1, i % 2 == 0);
         i += 1;
     }
-    number(used as u64);
-    number(replaced as u64);
+    number(kept.used as u64);
+    number(kept.replaced as u64);
 }
 
 fn show_slots(slots: &[u32]) {

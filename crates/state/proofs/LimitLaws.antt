@@ -1,52 +1,62 @@
--- The parts of `withinLimits`. Assumes nothing.
+-- The limits of a state and of its interval as facts, and back; and what they say of each count. Assumes nothing.
 use mathlib.Core.Path.{_≡_}
 use mathlib.Core.Bool.{true}
 use Prim.Native.Nat.{ℕ, _*_, _≤_, _<_}
 use native.Mathlib.Omega.{arith}
 use borrow.Author.Tests.{leb-true, le-leb}
-use lib.ListN.{getD, take}
+use lib.ListN.{getD}
 use Rattle.wire.specs.Lists.{all, atMost, EachBelow}
 use Rattle.wire.proofs.Lists.{and-split, all-at}
-use Rattle.settings.specs.Settings.{slotCount}
-use Rattle.load.specs.Staging.{stagingBytes}
+use Rattle.settings.specs.Settings.{slotCount, settingsWithin}
+use Rattle.load.specs.Staging.{addressesWithin}
+use Rattle.orders.specs.Orders.{ordersWithin}
 use Rattle.state.specs.declared.State.{State}
-use Rattle.state.specs.Limits.{mostEvents, mostReadings, mostCommands, givenAt, loadsIn, withinLimits}
+use Rattle.state.specs.declared.interval.Interval.{Interval}
+use Rattle.state.specs.Interval.{mostEvents, mostReadings, intervalWithin}
+use Rattle.state.specs.Limits.{withinLimits}
 
--- the limits as facts
-pub record Within (s : State) : Type 0 where
-  pub taken-most : s .taken ≤ mostEvents
-  pub boxes-most : all (atMost (s .taken)) (s .counts .boxes) ≡ true
-  pub beacons-most : all (atMost (s .taken)) (s .counts .beacons) ≡ true
-  pub used-taken : s .used ≤ s .taken
-  pub used-most : s .used ≤ slotCount
-  pub replaced-taken : s .replaced ≤ s .taken
-  pub readings-most : s .readings ≤ mostReadings
-  pub totals-most : all (atMost (65535 * s .readings)) (s .totals) ≡ true
-  pub accepted-most : s .accepted ≤ mostCommands
-  pub waiters-most : s .waiters ≤ s .accepted
-  pub given : all (givenAt (s .reach)) (take (s .waiters) (s .waiting)) ≡ true
-  pub loads-most : loadsIn (take (s .waiters) (s .waiting)) ≤ 1
-  pub next-most : s .next ≤ s .reach
-  pub reach-most : s .reach ≤ stagingBytes
-  pub limhi-most : s .settings .limhi ≤ slotCount
+-- ---- a state
 
-pub within : (s : State) → withinLimits s ≡ true → Within s
+pub record StateLimits (s : State) : Type 0 where
+  pub interval : intervalWithin (s .interval) ≡ true
+  pub settings : settingsWithin (s .settings) ≡ true
+  pub orders : ordersWithin (s .orders) (s .staging .reach) ≡ true
+  pub staging : addressesWithin (s .staging) ≡ true
+
+pub state-limits : (s : State) → withinLimits s ≡ true → StateLimits s
 unfolding withinLimits
-within s h =
-    let p5 = and-split _ _ h in
-    let p4 = and-split _ _ (p5 .0) in
-    let p3 = and-split _ _ (p4 .0) in
-    let p2 = and-split _ _ (p3 .0) in
-    let p1 = and-split _ _ (p2 .0) in
-    let c = and-split _ _ (p1 .0) in
+state-limits s h =
+    let p = and-split _ _ h in
+    let q = and-split _ _ (p .0) in
+    let r = and-split _ _ (q .0) in
+    record { interval = r .0; settings = r .1; orders = q .1; staging = p .1 }
+
+pub state-whole : (s : State) → StateLimits s → withinLimits s ≡ true
+unfolding withinLimits
+state-whole s l = rw (l .interval, l .settings, l .orders, l .staging)
+
+-- ---- an interval
+
+pub record IntervalLimits (i : Interval) : Type 0 where
+  pub taken-most : i .taken ≤ mostEvents
+  pub boxes-most : all (atMost (i .taken)) (i .counts .boxes) ≡ true
+  pub beacons-most : all (atMost (i .taken)) (i .counts .beacons) ≡ true
+  pub used-taken : i .samples .used ≤ i .taken
+  pub used-most : i .samples .used ≤ slotCount
+  pub replaced-taken : i .samples .replaced ≤ i .taken
+  pub readings-most : i .readings ≤ mostReadings
+  pub totals-most : all (atMost (65535 * i .readings)) (i .totals) ≡ true
+
+pub interval-limits : (i : Interval) → intervalWithin i ≡ true → IntervalLimits i
+unfolding intervalWithin
+interval-limits i h =
+    let p = and-split _ _ h in
+    let q = and-split _ _ (p .0) in
+    let c = and-split _ _ (q .0) in
     let c′ = and-split _ _ (c .0) in
-    let l = and-split _ _ (p1 .1) in
+    let l = and-split _ _ (q .1) in
     let l′ = and-split _ _ (l .0) in
-    let r = and-split _ _ (p2 .1) in
-    let m = and-split _ _ (p3 .1) in
-    let m′ = and-split _ _ (m .0) in
-    let w = and-split _ _ (m .1) in
-    let t = and-split _ _ (p4 .1) in
+    let r = and-split _ _ (p .1) in
     record {
       taken-most = leb-true _ _ (c′ .0);
       boxes-most = c′ .1;
@@ -56,18 +66,11 @@ within s h =
       replaced-taken = leb-true _ _ (l .1);
       readings-most = leb-true _ _ (r .0);
       totals-most = r .1;
-      accepted-most = leb-true _ _ (m′ .0);
-      waiters-most = leb-true _ _ (m′ .1);
-      given = w .0;
-      loads-most = leb-true _ _ (w .1);
-      next-most = leb-true _ _ (t .0);
-      reach-most = leb-true _ _ (t .1);
-      limhi-most = leb-true _ _ (p5 .1);
     }
 
-pub whole : (s : State) → Within s → withinLimits s ≡ true
-unfolding withinLimits
-whole s w =
+pub interval-whole : (i : Interval) → IntervalLimits i → intervalWithin i ≡ true
+unfolding intervalWithin
+interval-whole i w =
     rw (
       le-leb _ _ (w .taken-most),
       w .boxes-most,
@@ -77,22 +80,17 @@ whole s w =
       le-leb _ _ (w .replaced-taken),
       le-leb _ _ (w .readings-most),
       w .totals-most,
-      le-leb _ _ (w .accepted-most),
-      le-leb _ _ (w .waiters-most),
-      w .given,
-      le-leb _ _ (w .loads-most),
-      le-leb _ _ (w .next-most),
-      le-leb _ _ (w .reach-most),
-      le-leb _ _ (w .limhi-most),
     )
 
--- every count is below the number of events an interval can hold, if it can take one more
-pub boxes-below : (s : State) → Within s → s .taken < mostEvents → EachBelow 1000000 (s .counts .boxes)
-boxes-below s w h k = omega (arith, all-at (s .taken) (s .counts .boxes) k (w .boxes-most))
+-- every count is below n where taken is
+pub boxes-below : (n : ℕ) (i : Interval) → intervalWithin i ≡ true → i .taken < n → EachBelow n (i .counts .boxes)
+boxes-below n i w h k = omega (arith, all-at (i .taken) (i .counts .boxes) k (interval-limits i w .boxes-most))
 
-pub beacons-below : (s : State) → Within s → s .taken < mostEvents → EachBelow 1000000 (s .counts .beacons)
-beacons-below s w h k = omega (arith, all-at (s .taken) (s .counts .beacons) k (w .beacons-most))
+pub beacons-below : (n : ℕ) (i : Interval) → intervalWithin i ≡ true → i .taken < n → EachBelow n (i .counts .beacons)
+beacons-below n i w h k = omega (arith, all-at (i .taken) (i .counts .beacons) k (interval-limits i w .beacons-most))
 
--- a total has a rate code
-pub total-most : (s : State) → Within s → (k : ℕ) → getD (s .totals) k 0 ≤ 65535 * s .readings
-total-most s w k = all-at (65535 * s .readings) (s .totals) k (w .totals-most)
+-- sixty readings make no total over 3,932,100
+pub totals-below : (i : Interval) → intervalWithin i ≡ true → EachBelow 4000000 (i .totals)
+totals-below i w k =
+    let l = interval-limits i w in
+    omega (arith, all-at (65535 * i .readings) (i .totals) k (l .totals-most), l .readings-most)

@@ -1,2 +1,3 @@
-pub mod Limits
+pub mod Interval
 pub mod State
+pub mod Limits

@@ -1,33 +1,29 @@
--- A fresh processor's state (document 01, "One event": "Fresh"). Assumes nothing.
-use lib.ListN.{replicate}
-use Rattle.wire.specs.Bytes.{zeros}
+-- The processor's state in its parts: a fresh one, and a state with another part (document 01, "One event": "Fresh"). Assumes nothing.
 use Rattle.settings.specs.Settings.{freshSettings}
-use Rattle.sort.specs.declared.counts.Counts.{Counts}
-use Rattle.command.specs.declared.command.Command.the-variants.{Limhi}
+use Rattle.load.specs.declared.staging.Addresses.{Addresses}
+use Rattle.load.specs.Staging.{freshAddresses}
+use Rattle.orders.specs.declared.Orders.{Orders}
+use Rattle.orders.specs.Orders.{freshOrders}
 use Rattle.state.specs.declared.State.{State}
-use Rattle.state.specs.declared.Waiting.{Waiting}
-
-abbrev pub noCounts : Counts
-noCounts = record { boxes = zeros 116; beacons = zeros 12 }
-
--- what stands beyond the waiting commands
-abbrev pub filler : Waiting
-filler = record { command = Limhi 0 }
+use Rattle.state.specs.declared.interval.Interval.{Interval}
+use Rattle.state.specs.Interval.{freshInterval}
 
 -- "Fresh: frame 0, counts and slots 0, staging addresses 0, LIMHI 500, all other settings 0"
 unfoldable pub freshState : State
 freshState = record {
   frame = 0;
-  taken = 0;
-  counts = noCounts;
-  used = 0;
-  replaced = 0;
-  readings = 0;
-  totals = zeros 8;
+  interval = freshInterval;
   settings = freshSettings;
-  accepted = 0;
-  waiting = replicate 32 filler;
-  waiters = 0;
-  next = 0;
-  reach = 0;
+  orders = freshOrders;
+  staging = freshAddresses;
 }
+
+-- the state with another interval, other orders, other staging addresses
+abbrev pub withInterval : State → Interval → State
+withInterval s i = record { frame = s .frame; interval = i; settings = s .settings; orders = s .orders; staging = s .staging }
+
+abbrev pub withOrders : State → Orders → State
+withOrders s o = record { frame = s .frame; interval = s .interval; settings = s .settings; orders = o; staging = s .staging }
+
+abbrev pub withStaging : State → Addresses → State
+withStaging s a = record { frame = s .frame; interval = s .interval; settings = s .settings; orders = s .orders; staging = a }

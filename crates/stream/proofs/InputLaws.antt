@@ -1,4 +1,4 @@
--- Laws of buffered input: bytes that are moved, and bytes that are read behind others. Assumes nothing.
+-- Bytes moved to the start of a buffer and bytes read behind them keep what waited, in its order. Assumes nothing.
 use mathlib.Core.Path.{_≡_, sym, ap, _∙_}
 use mathlib.Core.List.{List, [], _∷_, _++_}
 use Prim.Native.Nat.{ℕ, suc, _+_, _-_, _≤_, _<_}
@@ -23,7 +23,8 @@ module _ (b b₀ : List ℕ) (at i : ℕ) (h : at ≤ i) (g : i < length b₀) (
       ∙ ap (λ (k : ℕ). getD b₀ k 0) (z ∙ sym e)
       ∙ sym (getD-drop at b₀ (i - at) 0)
 
-  pub moved-one : take (i - at) b ≡ take (i - at) (drop at b₀) → take (i + 1 - at) (set b (i - at) (getD b i 0)) ≡ take (i + 1 - at) (drop at b₀)
+  pub moved-one : take (i - at) b ≡ take (i - at) (drop at b₀)
+      → take (i + 1 - at) (set b (i - at) (getD b i 0)) ≡ take (i + 1 - at) (drop at b₀)
   moved-one e =
       let k : i + 1 - at ≡ suc (i - at) = omega arith in
       rw k
@@ -42,7 +43,8 @@ module _ (b b₀ : List ℕ) (at i : ℕ) (h : at ≤ i) (g : i < length b₀) (
 -- ---- what waits
 
 pub length-waiting : (input : Input) (b : List ℕ) → Held input b → length (waitingIn input b) ≡ input .end - input .at
-length-waiting input b h = length-take-le (input .end - input .at) (drop (input .at) b) (omega (arith, length-drop (input .at) b, h))
+length-waiting input b h =
+    length-take-le (input .end - input .at) (drop (input .at) b) (omega (arith, length-drop (input .at) b, h))
 
 -- the bytes of the old buffer are moved to the start of another, and more are read behind them
 pub moved-begins : (input : Input) (b₀ b₁ b₂ : List ℕ) (more : ℕ) → Held input b₀ → input .end - input .at ≤ more
@@ -77,7 +79,8 @@ begins-none old new h l =
     sym h ∙ ap (λ (n : ℕ). take n new) z
 
 -- a byte that waits, by its place in the buffer
-pub waiting-byte : (input : Input) (b : List ℕ) (u : ℕ) → u < input .end - input .at → getD (waitingIn input b) u 0 ≡ getD b (input .at + u) 0
+pub waiting-byte : (input : Input) (b : List ℕ) (u : ℕ) → u < input .end - input .at
+    → getD (waitingIn input b) u 0 ≡ getD b (input .at + u) 0
 waiting-byte input b u h = getD-take (input .end - input .at) (drop (input .at) b) u 0 h ∙ getD-drop (input .at) b u 0
 
 -- the bytes that waited are the first that wait

@@ -1,3 +1,3 @@
--- Laws that the proofs cite.
+-- Laws of input and records, which the programs' proofs cite too.
 pub mod InputLaws
 pub mod RecordLaws

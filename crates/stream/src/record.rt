@@ -3,13 +3,14 @@ ghost use mathlib.Core.Bool.{true, false};
 ghost use mathlib.Core.Path.{_≡_};
 ghost use Prim.Native.Nat.{_+_, _≤_, _<_};
 ghost use lib.ListN.{length, getD};
-ghost use Rattle.processor.specs.Reading.{readingAnswer};
+ghost use Rattle.processor.specs.Reading.{readingDone};
 ghost use Rattle.stream.specs.Input.{Held, waitingIn, inputBytes};
-ghost use Rattle.stream.specs.Record.{LongAs, FoundIn, IsOf, flagOf, eventIn, recordAnswer, recordSlots, countsIn};
+ghost use Rattle.stream.specs.Record.{LongAs, FoundIn, IsOf, eventIn, recordDone, countsIn};
 use crate::input::Input;
 use processor::Answer;
 use sort::event::Event;
 use state::State;
+use wire::bits::is_set;
 
 // What stands next in the input.
 pub enum Next {
@@ -17,8 +18,14 @@ pub enum Next {
     End,
     // No kind, or a short body.
     Bad,
-    // A record: its body lies in the buffer from `from` to before `rest.at`, and `rest` is the input behind it.
-    Record { kind: u8, from: usize, rest: Input },
+    // A record: its kind byte is at `start` in the buffer, its body from `from` to before `rest.at`, and `rest` is the input
+    // behind it.
+    Record {
+        kind: u8,
+        start: usize,
+        from: usize,
+        rest: Input,
+    },
 }
 
 // Where a program stands after a record: the state, the input, and whether there is more to do.
@@ -103,18 +110,23 @@ pub fn whole(buffer: &mut [u8], input: Input, kind: u8, head: usize, n: usize) -
     requires { ⌜ Held input (now buffer) ⌝ }
     requires { ⌜ (1 ≤ head) × (head + n ≤ inputBytes) ⌝ }
     requires { ⌜ (input .at < input .end) × (getD (now buffer) (input .at) 0 ≡ kind) ⌝ }
-    ensures { λ r. ⌜ FoundIn (λ _. head) r (waitingIn input (now (buffer .entry))) (now (buffer .exit)) ⌝ }
-    ensures { λ r. ⌜ IsOf kind n r ⌝ }
+    ensures { λ r. ⌜ FoundIn r (waitingIn input (now (buffer .entry))) (now (buffer .exit)) ⌝ }
+    ensures { λ r. ⌜ IsOf kind head n r ⌝ }
 {
     let filled = crate::input::fill(buffer, input, head + n);
-    let at = filled.at;
+    let start = filled.at;
     let end = filled.end;
-    if end - at < head + n {
+    if end - start < head + n {
         return Next::Bad;
     }
-    let from = at + head;
+    let from = start + head;
     let rest = Input { at: from + n, end };
-    Next::Record { kind, from, rest }
+    Next::Record {
+        kind,
+        start,
+        from,
+        rest,
+    }
 }
 
 // The flags' values in an event's last byte, and the largest that they make.
@@ -128,13 +140,6 @@ const STOP: u8 = 8;
 
 const LAST_FLAGS: u8 = 15;
 
-fn flag(flags: u8, value: u8) -> bool
-    requires { ⌜ 1 ≤ value ⌝ }
-    ensures { λ r. ⌜ r ≡ flagOf flags value ⌝ }
-{
-    flags / value % 2 == 1
-}
-
 fn event_in(body: &[u8]) -> Event
     requires { ⌜ length (now body) ≡ 7 ⌝ }
     ensures { λ r. ⌜ r ≡ eventIn (now (body .entry)) ⌝ }
@@ -144,22 +149,22 @@ fn event_in(body: &[u8]) -> Event
         t: wire::read::u16_at(body, 0),
         high: wire::read::u16_at(body, 2),
         low: wire::read::u16_at(body, 4),
-        flg0: flag(flags, FLG0),
-        flg1: flag(flags, FLG1),
-        error: flag(flags, ERROR),
-        stop: flag(flags, STOP),
+        flg0: is_set(flags, FLG0),
+        flg1: is_set(flags, FLG1),
+        error: is_set(flags, ERROR),
+        stop: is_set(flags, STOP),
     }
 }
 
 // One event. A flag byte over 15 is a field over its range.
 pub fn event(state: State, tables: &[u8], slots: &mut [u32], body: &[u8]) -> Answer
     requires { ⌜ length (now body) ≡ 7 ⌝ }
-    ensures answer { λ r. ⌜ r ≡ recordAnswer state (now (tables .entry)) (now (slots .entry)) (now (body .entry)) ⌝ }
-    ensures slots { λ r. ⌜ now (slots .exit) ≡ recordSlots state (now (tables .entry)) (now (slots .entry)) (now (body .entry)) ⌝ }
+    ensures answer { λ r. ⌜ r ≡ recordDone state (now (tables .entry)) (now (slots .entry)) (now (body .entry)) .answer ⌝ }
+    ensures slots { λ r. ⌜ now (slots .exit) ≡ recordDone state (now (tables .entry)) (now (slots .entry)) (now (body .entry)) .slots ⌝ }
 {
     if LAST_FLAGS < body[6] {
         return Answer {
-            number: processor::FIELD_OVER_RANGE,
+            number: causes::FIELD_RANGE,
             state,
         };
     }
@@ -185,7 +190,7 @@ fn counts_in(body: &[u8]) -> [u16; 8]
 // One second reading.
 pub fn reading(state: State, body: &[u8]) -> Answer
     requires { ⌜ length (now body) ≡ 16 ⌝ }
-    ensures { λ r. ⌜ r ≡ readingAnswer state (countsIn (now (body .entry))) ⌝ }
+    ensures { λ r. ⌜ r ≡ readingDone state (countsIn (now (body .entry))) ⌝ }
 {
     processor::reading::reading(state, counts_in(body))
 }

@@ -2,6 +2,7 @@
 // written out.
 use command::echo::hex_digit;
 use libc::STDOUT_FILENO;
+use wire::bits::wide32;
 
 pub const TEXT_BYTES: usize = 65536;
 
@@ -47,15 +48,11 @@ pub fn number(text: &mut [u8], at: &mut usize, n: u64) {
     decimal(text, at, n);
 }
 
-fn wide(n: u32) -> u64 {
-    n as u64
-}
-
 // A space before each number.
 pub fn numbers(text: &mut [u8], at: &mut usize, ns: &[u32]) {
     let mut i: usize = 0;
     while i < ns.len() {
-        number(text, at, wide(ns[i]));
+        number(text, at, wide32(ns[i]));
         i += 1;
     }
 }

@@ -12,10 +12,13 @@ use Rattle.wire.specs.Lists.{joinIf, keep}
 use Rattle.settings.specs.Settings.{slotCount}
 use Rattle.wire.specs.Pieces.{padded}
 use Rattle.sort.specs.Samples.{replacedBy, sampled, slotsOf}
-use Rattle.sort.proofs.SampleLaws.{map-append, length-sampled}
-use Rattle.tally.specs.Tally.{Tally, isEligible, eligibles, priority, recordFor, slotsFor}
+use Rattle.sort.proofs.SampleLaws.{map-append, length-sampled, sampled-is, replaced-is}
+use Rattle.settings.specs.declared.Settings.{Settings}
+use Rattle.sort.specs.declared.event.Event.{Event}
+use Rattle.tally.specs.Events.{isEligible, priority, recordFor, eligiblesBy, slotsBy}
+use Rattle.tally.specs.Tally.{Tally, eventsOf, eligibles, ownSlots}
 use Rattle.tally.specs.Demand3.{All, Distinct, noEvent, eventAt, Samples}
-use Rattle.tally.proofs.Invariant.{Inv}
+use Rattle.tally.proofs.Invariant.{Inv, limhi-most}
 
 -- ---- a property of every element
 
@@ -44,12 +47,12 @@ module _ {A : Type 0} (P : A → Type 0) where
   All-keep p (x ∷ xs) a = All-join (p x) x (keep p xs) (a .0) (All-keep p xs (a .1))
 
   pub All-sampled : (p : A → Bool) (N lim : ℕ) (l : List A) → All P l → All P (sampled p N lim l)
-  unfolding sampled
   All-sampled p N lim l a =
       let k : ℕ = replacedBy p N lim l in
-      All-append (take k (keep p (drop N l))) (drop k (take N l))
-      (All-take k (keep p (drop N l)) (All-keep p (drop N l) (All-drop N l a)))
-      (All-drop k (take N l) (All-take N l a))
+      rw (sampled-is p N lim l)
+      (All-append (take lim (keep p (drop N l))) (drop k (take N l))
+      (All-take lim (keep p (drop N l)) (All-keep p (drop N l) (All-drop N l a)))
+      (All-drop k (take N l) (All-take N l a)))
 
 -- ---- elements that differ
 
@@ -92,13 +95,15 @@ module _ {A : Type 0} where
   flip (y ∷ ys) a h = let r = flip-one y ys a h in (r .0, flip ys a (r .1))
 
   Distinct-sampled : (p : A → Bool) (N lim : ℕ) (l : List A) → Distinct l → Distinct (sampled p N lim l)
-  unfolding sampled
   Distinct-sampled p N lim l d =
       let k : ℕ = replacedBy p N lim l in
-      Distinct-append (take k (keep p (drop N l))) (drop k (take N l))
-      (Distinct-take k (keep p (drop N l)) (Distinct-keep p (drop N l) (Distinct-drop N l d)))
+      let later = keep p (drop N l) in
+      let first = drop k (take N l) in
+      rw (sampled-is p N lim l)
+      (Distinct-append (take lim later) first
+      (Distinct-take lim later (Distinct-keep p (drop N l) (Distinct-drop N l d)))
       (Distinct-drop k (take N l) (Distinct-take N l d))
-      (All-take _ k (keep p (drop N l)) (All-keep _ p (drop N l) (flip (drop N l) (drop k (take N l)) (All-drop _ k (take N l) (apart N l d)))))
+      (All-take _ lim later (All-keep _ p (drop N l) (flip (drop N l) first (All-drop _ k (take N l) (apart N l d))))))
 
 -- ---- the rule under a map
 
@@ -123,12 +128,17 @@ module _ {A B : Type 0} (f : A → B) where
   map-keep p (x ∷ xs) = map-join (p (f x)) x (keep (λ x. p (f x)) xs) ∙ ap (joinIf (p (f x)) (f x)) (map-keep p xs)
 
   replaced-map : (p : B → Bool) (N lim : ℕ) (l : List A) → replacedBy (λ x. p (f x)) N lim l ≡ replacedBy p N lim (map f l)
-  unfolding replacedBy
-  replaced-map p N lim l = ap (min lim) (sym (length-map (keep (λ x. p (f x)) (drop N l)) f) ∙ ap length (map-keep p (drop N l) ∙ ap (keep p) (map-drop N l)))
+  replaced-map p N lim l =
+      replaced-is (λ x. p (f x)) N lim l
+      ∙ ap (min lim) (sym (length-map (keep (λ x. p (f x)) (drop N l)) f) ∙ ap length (map-keep p (drop N l) ∙ ap (keep p) (map-drop N l)))
+      ∙ sym (replaced-is p N lim (map f l))
 
   map-sampled : (p : B → Bool) (N lim : ℕ) (l : List A) → map f (sampled (λ x. p (f x)) N lim l) ≡ sampled p N lim (map f l)
-  unfolding sampled
-  map-sampled p N lim l = rw (map-append, map-take, map-drop, map-take, replaced-map p N lim l, map-keep p, map-drop)
+  map-sampled p N lim l =
+      let e : map f (take lim (keep (λ x. p (f x)) (drop N l)) ++ drop (replacedBy (λ x. p (f x)) N lim l) (take N l))
+      ≡ take lim (keep p (drop N (map f l))) ++ drop (replacedBy p N lim (map f l)) (take N (map f l)) =
+      rw (map-append, map-take, map-drop, map-take, replaced-map p N lim l, map-keep p, map-drop) in
+      ap (map f) (sampled-is (λ x. p (f x)) N lim l) ∙ e ∙ sym (sampled-is p N lim (map f l))
 
 -- ---- a, a + 1, .., n of them
 
@@ -159,29 +169,58 @@ module _ {A : Type 0} (d : A) where
 
 -- ---- the samples of an interval
 
+-- those that pass a test pass it, and keep what all have
+pub keep-passes : {A : Type 0} (P : A → Type 0) (p : A → Bool) (l : List A) → All P l → All (λ x. P x × (p x ≡ true)) (keep p l)
+unfolding keep
+keep-passes P p [] h = tt
+keep-passes P p (x ∷ xs) h = go (p x) refl (keep-passes P p xs (h .1))
+  where
+    go : (b : Bool) → p x ≡ b → All (λ x. P x × (p x ≡ true)) (keep p xs) → All (λ x. P x × (p x ≡ true)) (joinIf b x (keep p xs))
+    go true q r = ((h .0, q), r)
+    go false q r = r
+
+All-map : {A : Type 0} (P Q : A → Type 0) → ((x : A) → P x → Q x) → (l : List A) → All P l → All Q l
+All-map P Q f [] h = tt
+All-map P Q f (x ∷ xs) h = (f x (h .0), All-map P Q f xs (h .1))
+
 -- the places of the eligible events, and of those in the slots
-module _ (t : Tally) where
+module _ (s : Settings) (tables : List ℕ) (es : List Event) where
   abbrev eligiblePlaces : List ℕ
-  eligiblePlaces = keep (λ i. isEligible t (eventAt (t .events) i)) (range 0 (length (t .events)))
+  eligiblePlaces = keep (λ i. isEligible s tables (eventAt es i)) (range 0 (length es))
 
   abbrev samplePlaces : List ℕ
-  samplePlaces = sampled (λ i. priority t (eventAt (t .events) i)) slotCount (t .settings .limhi) eligiblePlaces
+  samplePlaces = sampled (λ i. priority s tables (eventAt es i)) slotCount (s .limhi) eligiblePlaces
 
-  places-events : map (eventAt (t .events)) samplePlaces ≡ sampled (priority t) slotCount (t .settings .limhi) (eligibles t)
-  unfolding eligibles
+  places-events : map (eventAt es) samplePlaces ≡ sampled (priority s tables) slotCount (s .limhi) (eligiblesBy s tables es)
+  unfolding eligiblesBy
   places-events =
-      map-sampled (eventAt (t .events)) (priority t) slotCount (t .settings .limhi) eligiblePlaces
-      ∙ ap (sampled (priority t) slotCount (t .settings .limhi)) (map-keep (eventAt (t .events)) (isEligible t) (range 0 (length (t .events))) ∙ ap (keep (isEligible t)) (at-places noEvent (t .events)))
+      map-sampled (eventAt es) (priority s tables) slotCount (s .limhi) eligiblePlaces
+      ∙ ap (sampled (priority s tables) slotCount (s .limhi))
+      (map-keep (eventAt es) (isEligible s tables) (range 0 (length es)) ∙ ap (keep (isEligible s tables)) (at-places noEvent es))
 
-  slots-places : slotsFor t ≡ padded slotCount (map (λ i. recordFor t (eventAt (t .events) i)) samplePlaces)
-  unfolding slotsFor slotsOf
-  slots-places = ap (padded slotCount) (ap (map (recordFor t)) (sym places-events) ∙ map-map _ _ samplePlaces)
+  slots-places : slotsBy s tables es ≡ padded slotCount (map (λ i. recordFor s tables (eventAt es i)) samplePlaces)
+  unfolding slotsBy slotsOf
+  slots-places = ap (padded slotCount) (ap (map (recordFor s tables)) (sym places-events) ∙ map-map _ _ samplePlaces)
 
-  pub samples-differ : Inv t → Samples t (slotsFor t)
-  samples-differ v = record {
-    places = samplePlaces;
-    places-differ = Distinct-sampled _ slotCount (t .settings .limhi) _ (Distinct-keep _ (range 0 (length (t .events))) (Distinct-range 0 (length (t .events))));
-    places-below = All-sampled _ _ slotCount (t .settings .limhi) _ (All-keep _ _ (range 0 (length (t .events))) (All-range _ 0 (length (t .events)) (λ i l g. omega arith)));
-    places-many = sym (length-map samplePlaces (eventAt (t .events))) ∙ ap length places-events ∙ length-sampled (priority t) slotCount (t .settings .limhi) (eligibles t) (v .limhi-most);
-    slots-are = slots-places;
-  }
+  -- each is a place of the list, and of an eligible event
+  places-good : All (λ i. (i < length es) × (isEligible s tables (eventAt es i) ≡ true)) samplePlaces
+  places-good =
+      All-sampled _ _ slotCount (s .limhi) _
+      (keep-passes _ (λ i. isEligible s tables (eventAt es i)) (range 0 (length es)) (All-range _ 0 (length es) (λ i l g. omega arith)))
+
+pub samples-differ : (t : Tally) → Inv t → Samples t (ownSlots t)
+samples-differ t v =
+    let s = t .settings in
+    let es = eventsOf t in
+    let places = samplePlaces s (t .tables) es in
+    let Good : ℕ → Type 0 = λ i. (i < length es) × (isEligible s (t .tables) (eventAt es i) ≡ true) in
+    record {
+      places = places;
+      places-differ = Distinct-sampled _ slotCount (s .limhi) _ (Distinct-keep _ (range 0 (length es)) (Distinct-range 0 (length es)));
+      places-below = All-map Good (λ i. i < length es) (λ i p. p .0) places (places-good s (t .tables) es);
+      places-eligible = All-map Good (λ i. isEligible s (t .tables) (eventAt es i) ≡ true) (λ i p. p .1) places (places-good s (t .tables) es);
+      places-many = sym (length-map places (eventAt es))
+          ∙ ap length (places-events s (t .tables) es)
+          ∙ length-sampled (priority s (t .tables)) slotCount (s .limhi) (eligibles t) (limhi-most t v);
+      slots-are = slots-places s (t .tables) es;
+    }

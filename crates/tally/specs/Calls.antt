@@ -1,4 +1,4 @@
--- Lists of calls to one processor, and what it answers (document 01, "The tally of demand 3"). `next` and `reply` are the calls'
+-- Lists of calls to one processor, and what it answers (document 01, "The tally of demand 3"). `next` and `reply` are made of the calls'
 -- own definitions, those that the contracts cite. Assumes nothing.
 use mathlib.Core.Path.{_≡_}
 use mathlib.Core.Bool.{Bool, true, false, _&&_}
@@ -12,11 +12,12 @@ use Rattle.sort.specs.declared.counts.Counts.{Counts}
 use Rattle.sort.specs.declared.event.Event.{Event}
 use Rattle.state.specs.declared.State.{State}
 use Rattle.state.specs.State.{freshState}
-use Rattle.processor.specs.Event.{eventAnswer, eventSlots}
-use Rattle.processor.specs.Reading.{readingAnswer}
-use Rattle.processor.specs.Line.{lineAnswer, lineEcho}
-use Rattle.processor.specs.Package.{isPlaced, packageAnswer, packageStaging, packageEcho}
-use Rattle.processor.specs.Close.{closeAnswer, closeTables, closeSlots, closeOut}
+use Rattle.processor.specs.declared.Answer.{Answer}
+use Rattle.processor.specs.Event.{EventDone, eventDone}
+use Rattle.processor.specs.Reading.{readingDone}
+use Rattle.processor.specs.Line.{LineDone, lineDone}
+use Rattle.processor.specs.Package.{PackageDone, isStaged, packageDone}
+use Rattle.processor.specs.Close.{CloseDone, closeDone}
 
 -- a buffer is lent as the processor's own, the one used all along, or as another of any length and content
 pub data Lent : Type 0 where
@@ -67,53 +68,61 @@ pub record World : Type 0 where
 abbrev pub freshWorld : (tables staging : List ℕ) → World
 freshWorld tables staging = record { state = freshState; tables = tables; staging = staging; slots = zeros slotCount }
 
+-- ---- one call: what it makes of the state and of what it is lent
+
+abbrev pub eventIn : World → (tables slots : Lent) → Event → EventDone
+eventIn w t s e = eventDone (w .state) (found t (w .tables)) (found s (w .slots)) e
+
+abbrev pub readingIn : World → (counts : List ℕ) → Answer
+readingIn w counts = readingDone (w .state) counts
+
+abbrev pub lineIn : World → (bytes echo : List ℕ) → LineDone
+lineIn w bytes echo = lineDone (w .state) bytes echo
+
+abbrev pub loadIn : World → (bytes : List ℕ) → Lent → (echo : List ℕ) → PackageDone
+loadIn w bytes g echo = packageDone (w .state) bytes (found g (w .staging)) echo
+
+abbrev pub closeIn : World → (time : ℕ) (tables staging slots : Lent) (out : List ℕ) → CloseDone
+closeIn w time t g s out = closeDone (w .state) time (found t (w .tables)) (found g (w .staging)) (found s (w .slots)) out
+
 -- the world after a call
 unfoldable pub next : World → Call → World
 next w (event t s e) = record {
-  state = eventAnswer (w .state) (found t (w .tables)) (found s (w .slots)) e .state;
+  state = eventIn w t s e .answer .state;
   tables = w .tables;
   staging = w .staging;
-  slots = kept s (w .slots) (eventSlots (w .state) (found t (w .tables)) (found s (w .slots)) e);
+  slots = kept s (w .slots) (eventIn w t s e .slots);
 }
-next w (reading counts) = record {
-  state = readingAnswer (w .state) counts .state;
-  tables = w .tables;
-  staging = w .staging;
-  slots = w .slots;
-}
+next w (reading counts) = record { state = readingIn w counts .state; tables = w .tables; staging = w .staging; slots = w .slots }
 next w (line bytes echo) = record {
-  state = lineAnswer (w .state) bytes echo .state;
+  state = lineIn w bytes echo .answer .state;
   tables = w .tables;
   staging = w .staging;
   slots = w .slots;
 }
 next w (load bytes g echo) = record {
-  state = packageAnswer (w .state) bytes (found g (w .staging)) echo .state;
+  state = loadIn w bytes g echo .answer .state;
   tables = w .tables;
-  staging = kept g (w .staging) (packageStaging (w .state) bytes (found g (w .staging)) echo);
+  staging = kept g (w .staging) (loadIn w bytes g echo .staging);
   slots = w .slots;
 }
 next w (close time t g s out) = record {
-  state = closeAnswer (w .state) (found t (w .tables)) (found g (w .staging)) (found s (w .slots)) out .state;
-  tables = kept t (w .tables) (closeTables (w .state) (found t (w .tables)) (found g (w .staging)) (found s (w .slots)) out);
+  state = closeIn w time t g s out .answer .state;
+  tables = kept t (w .tables) (closeIn w time t g s out .tables);
   staging = w .staging;
-  slots = kept s (w .slots) (closeSlots (w .state) (found t (w .tables)) (found g (w .staging)) (found s (w .slots)) out);
+  slots = kept s (w .slots) (closeIn w time t g s out .slots);
 }
 
 -- what the call answers
+abbrev pub closeReply : CloseDone → Reply
+closeReply d = closed (d .answer .number) (d .answer .taken) (d .answer .counts) (d .answer .filled) (d .out)
+
 unfoldable pub reply : World → Call → Reply
-reply w (event t s e) = answered (eventAnswer (w .state) (found t (w .tables)) (found s (w .slots)) e .number)
-reply w (reading counts) = answered (readingAnswer (w .state) counts .number)
-reply w (line bytes echo) = echoed (lineAnswer (w .state) bytes echo .number) (lineEcho (w .state) bytes echo)
-reply w (load bytes g echo) =
-    echoed (packageAnswer (w .state) bytes (found g (w .staging)) echo .number) (packageEcho (w .state) bytes (found g (w .staging)) echo)
-reply w (close time t g s out) =
-    closed
-    (closeAnswer (w .state) (found t (w .tables)) (found g (w .staging)) (found s (w .slots)) out .number)
-    (closeAnswer (w .state) (found t (w .tables)) (found g (w .staging)) (found s (w .slots)) out .taken)
-    (closeAnswer (w .state) (found t (w .tables)) (found g (w .staging)) (found s (w .slots)) out .counts)
-    (closeAnswer (w .state) (found t (w .tables)) (found g (w .staging)) (found s (w .slots)) out .filled)
-    (closeOut (w .state) time (found t (w .tables)) (found g (w .staging)) (found s (w .slots)) out)
+reply w (event t s e) = answered (eventIn w t s e .answer .number)
+reply w (reading counts) = answered (readingIn w counts .number)
+reply w (line bytes echo) = echoed (lineIn w bytes echo .answer .number) (lineIn w bytes echo .echo)
+reply w (load bytes g echo) = echoed (loadIn w bytes g echo .answer .number) (loadIn w bytes g echo .echo)
+reply w (close time t g s out) = closeReply (closeIn w time t g s out)
 
 -- ---- lists of calls
 
@@ -142,6 +151,9 @@ Typed (load bytes g echo) = Unit {0}
 Typed (close time t g s out) = Unit {0}
 
 -- a lawful list: no call that is answered 0 or 10 lends another buffer than the processor's own; refused calls may lend anything
+abbrev pub LawfulCall : World → Call → Type 0
+LawfulCall w c = isStaged (numberOf (reply w c)) ≡ true → owns c ≡ true
+
 abbrev pub Lawful : World → List Call → Type 0
 Lawful w [] = Unit {0}
-Lawful w (c ∷ cs) = Typed c × ((isPlaced (numberOf (reply w c)) ≡ true → owns c ≡ true) × Lawful (next w c) cs)
+Lawful w (c ∷ cs) = Typed c × (LawfulCall w c × Lawful (next w c) cs)

@@ -3,8 +3,11 @@ use mathlib.Core.Path.{_≡_}
 use mathlib.Core.Logic.{_≢_}
 use mathlib.Core.Bool.{true, false}
 use mathlib.Core.List.{List, [], _∷_, map}
-use Prim.Native.Nat.{ℕ, zero, suc, _+_, _-_, _<_, min}
+use Prim.Native.Nat.{ℕ, _+_, _-_, _<_, min}
+use lib.Dec.{eqb}
 use lib.ListN.{length, getD, drop}
+use Rattle.causes.specs.Causes.{carriedOut}
+use Rattle.wire.specs.Bits.{bitOf}
 use Rattle.wire.specs.Bytes.{total}
 use Rattle.settings.specs.Settings.{slotCount}
 use Rattle.sort.specs.declared.counts.Counts.{Counts}
@@ -12,11 +15,9 @@ use Rattle.sort.specs.declared.event.Event.{Event}
 use Rattle.wire.specs.Pieces.{padded}
 use Rattle.sort.specs.Samples.{filled}
 use Rattle.state.specs.Limits.{withinLimits}
-use Rattle.processor.specs.Event.{eventSlots}
-use Rattle.processor.specs.Package.{packageStaging}
-use Rattle.processor.specs.Close.{closeTables, closeSlots}
-use Rattle.tally.specs.Calls.{Lent, own, other, found, Call, event, reading, line, load, close, Reply, answered, echoed, closed, World, freshWorld, next, replies, after, Lawful}
-use Rattle.tally.specs.Tally.{Tally, freshTally, eligibles, recordFor, tnext, treplies, tafter}
+use Rattle.tally.specs.Calls.{Lent, own, other, Call, event, reading, line, load, close, Reply, answered, echoed, closed, numberOf, World, freshWorld, eventIn, loadIn, closeIn, next, replies, after, Lawful}
+use Rattle.tally.specs.Events.{isEligible, recordFor}
+use Rattle.tally.specs.Tally.{Tally, freshTally, eventsOf, eligibles, tnext, treplies, tafter}
 use Rattle.tally.specs.View.{view}
 
 -- every element has the property
@@ -31,20 +32,20 @@ Distinct (x ∷ xs) = All (λ y. x ≢ y) xs × Distinct xs
 
 -- ---- the balances
 
--- the count of box b, and of boxes 7 to 116 together
-abbrev pub box : Counts → ℕ → ℕ
+-- the count of box b, and "the sum of 8 to 116"
+abbrev pub box : Counts → (b : ℕ) → ℕ
 box c b = getD (c .boxes) (b - 1) 0
 
 abbrev pub cells : Counts → ℕ
-cells c = total (drop 6 (c .boxes))
+cells c = total (drop 7 (c .boxes))
 
 pub record Balanced (taken : ℕ) (c : Counts) : Type 0 where
-  -- every event is discarded or has its gain
-  pub gains : box c 3 + box c 4 + box c 5 ≡ taken
-  -- every event with a gain is out of bounds or in a cell's box
-  pub boxes : box c 3 + box c 4 ≡ box c 6 + cells c
+  -- every event is discarded, out of bounds, or in one box of 7 to 116
+  pub boxes : taken ≡ box c 5 + box c 6 + box c 7 + cells c
   -- every event in a cell's box has its priority
-  pub priorities : box c 1 + box c 2 ≡ cells c
+  pub priorities : box c 1 + box c 2 ≡ box c 7 + cells c
+  -- every event that is not discarded has its gain
+  pub gains : box c 3 + box c 4 ≡ box c 6 + box c 7 + cells c
 
 -- ---- the samples
 
@@ -55,13 +56,14 @@ noEvent = record { t = 0; high = 0; low = 0; flg0 = false; flg1 = false; error =
 abbrev pub eventAt : List Event → ℕ → Event
 eventAt es i = getD es i noEvent
 
--- the slots are the records of that many different events: at distinct places of the interval's list
+-- the slots are the records of that many different eligible events: at distinct places of the interval's list
 pub record Samples (t : Tally) (slots : List ℕ) : Type 0 where
   pub places : List ℕ
   pub places-differ : Distinct places
-  pub places-below : All (λ i. i < length (t .events)) places
+  pub places-below : All (λ i. i < length (eventsOf t)) places
+  pub places-eligible : All (λ i. isEligible (t .settings) (t .tables) (eventAt (eventsOf t) i) ≡ true) places
   pub places-many : length places ≡ min slotCount (length (eligibles t))
-  pub slots-are : slots ≡ padded slotCount (map (λ i. recordFor t (eventAt (t .events) i)) places)
+  pub slots-are : slots ≡ padded slotCount (map (λ i. recordFor (t .settings) (t .tables) (eventAt (eventsOf t) i)) places)
 
 -- ---- at every moment: before each call, and at the end
 
@@ -69,7 +71,7 @@ pub record Moment (t : Tally) (w : World) : Type 0 where
   -- the state and the own buffers are the tally's
   pub same : w ≡ view t
   pub limits : withinLimits (w .state) ≡ true
-  pub balanced : Balanced (w .state .taken) (w .state .counts)
+  pub balanced : Balanced (w .state .interval .taken) (w .state .interval .counts)
   -- "filled is the lesser of 704 and the eligible events"
   pub filled-are : filled (w .slots) ≡ min slotCount (length (eligibles t))
   pub samples : Samples t (w .slots)
@@ -88,10 +90,7 @@ ClosedBalanced (closed n taken counts filled out) = Balanced taken counts
 
 -- event calls answered 0
 abbrev pub takenOne : Call → Reply → ℕ
-takenOne (event t s e) (answered zero) = 1
-takenOne (event t s e) (answered (suc n)) = 0
-takenOne (event t s e) (echoed n echo) = 0
-takenOne (event t s e) (closed n taken counts filled out) = 0
+takenOne (event t s e) r = bitOf (eqb (numberOf r) carriedOut)
 takenOne (reading counts) r = 0
 takenOne (line bytes echo) r = 0
 takenOne (load bytes staging echo) r = 0
@@ -120,13 +119,11 @@ OtherIs own after = Unit {0}
 OtherIs (other x) after = after ≡ x
 
 abbrev pub OthersKept : World → Call → Type 0
-OthersKept w (event t s e) = OtherIs s (eventSlots (w .state) (found t (w .tables)) (found s (w .slots)) e)
+OthersKept w (event t s e) = OtherIs s (eventIn w t s e .slots)
 OthersKept w (reading counts) = Unit {0}
 OthersKept w (line bytes echo) = Unit {0}
-OthersKept w (load bytes g echo) = OtherIs g (packageStaging (w .state) bytes (found g (w .staging)) echo)
-OthersKept w (close time t g s out) =
-    OtherIs t (closeTables (w .state) (found t (w .tables)) (found g (w .staging)) (found s (w .slots)) out)
-    × OtherIs s (closeSlots (w .state) (found t (w .tables)) (found g (w .staging)) (found s (w .slots)) out)
+OthersKept w (load bytes g echo) = OtherIs g (loadIn w bytes g echo .staging)
+OthersKept w (close time t g s out) = OtherIs t (closeIn w time t g s out .tables) × OtherIs s (closeIn w time t g s out .slots)
 
 abbrev pub EachKept : World → List Call → Type 0
 EachKept w [] = Unit {0}
@@ -145,7 +142,7 @@ pub record Demand3 (tables staging : List ℕ) (cs : List Call) : Type 0 where
   pub closes : All ClosedBalanced (replies (freshWorld tables staging) cs)
   -- event calls answered 0 are those of the closes and of the open interval
   pub events : takenCalls cs (replies (freshWorld tables staging) cs)
-      ≡ takenClosed (replies (freshWorld tables staging) cs) + after (freshWorld tables staging) cs .state .taken
+      ≡ takenClosed (replies (freshWorld tables staging) cs) + after (freshWorld tables staging) cs .state .interval .taken
   -- what is lent besides the own buffers is left as it was
   pub others : EachKept (freshWorld tables staging) cs
 

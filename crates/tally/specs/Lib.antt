@@ -1,4 +1,5 @@
 pub mod Calls
+pub mod Events
 pub mod Tally
 pub mod View
 pub mod Demand3

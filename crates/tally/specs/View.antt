@@ -1,30 +1,32 @@
 -- The processor's state and buffers, as the tally has them. Assumes nothing.
+use mathlib.Core.List.{List}
+use Prim.Native.Nat.{ℕ}
 use lib.ListN.{length}
-use Rattle.wire.specs.Pieces.{filledUp}
-use Rattle.settings.specs.Settings.{slotCount}
-use Rattle.sort.specs.Samples.{placedBy}
+use Rattle.settings.specs.declared.Settings.{Settings}
+use Rattle.orders.specs.Orders.{ordersWith}
 use Rattle.state.specs.declared.State.{State}
-use Rattle.state.specs.State.{filler}
-use Rattle.state.specs.Limits.{mostCommands}
+use Rattle.state.specs.declared.interval.Interval.{Interval}
 use Rattle.tally.specs.Calls.{World}
-use Rattle.tally.specs.Tally.{Tally, frameFor, countsOf, priority, recordFor, eligibles, totalsFor, slotsFor}
+use Rattle.tally.specs.Events.{countsBy, useBy}
+use Rattle.tally.specs.Tally.{Gathered, Tally, totalsBy, frameOf, ownSlots}
 
-unfoldable pub viewState : Tally → State
+abbrev pub viewInterval : Settings → (tables : List ℕ) → Gathered → Interval
+viewInterval s tables g = record {
+  taken = length (g .events);
+  counts = countsBy s tables (g .events);
+  samples = useBy s tables (g .events);
+  readings = length (g .readings);
+  totals = totalsBy (g .readings);
+}
+
+abbrev pub viewState : Tally → State
 viewState t = record {
-  frame = frameFor t;
-  taken = length (t .events);
-  counts = countsOf t;
-  used = placedBy (priority t) (recordFor t) slotCount (t .settings .limhi) (eligibles t) .used;
-  replaced = placedBy (priority t) (recordFor t) slotCount (t .settings .limhi) (eligibles t) .replaced;
-  readings = length (t .readings);
-  totals = totalsFor t;
+  frame = frameOf t;
+  interval = viewInterval (t .settings) (t .tables) (t .gathered);
   settings = t .settings;
-  accepted = t .accepted;
-  waiting = filledUp mostCommands filler (t .waiting);
-  waiters = length (t .waiting);
-  next = t .next;
-  reach = t .reach;
+  orders = ordersWith (t .told .accepted) (t .told .waiting);
+  staging = t .addresses;
 }
 
 unfoldable pub view : Tally → World
-view t = record { state = viewState t; tables = t .tables; staging = t .staging; slots = slotsFor t }
+view t = record { state = viewState t; tables = t .tables; staging = t .staging; slots = ownSlots t }

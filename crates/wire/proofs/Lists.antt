@@ -2,17 +2,22 @@
 use mathlib.Core.Path.{_≡_, refl, sym, ap, _∙_}
 use mathlib.Core.Bool.{Bool, true, false, _&&_, _||_, cond, false≢true}
 use mathlib.Core.List.{List, [], _∷_, _++_, map}
-use mathlib.Core.Logic.{_⊎_, inl, inr}
-use Prim.Native.Nat.{ℕ, zero, suc, _+_, _≤_, _<_, suc-le-suc}
+use mathlib.Core.Logic.{_⊎_, inl, inr, ⊎-elim}
+use Prim.Native.Nat.{ℕ, zero, suc, _+_, _-_, _≤_, _<_, min, suc-le-suc}
 use native.Mathlib.Nat.{le-refl, le-trans, le-suc}
 use native.Mathlib.Numerals.{add-one}
 use native.Mathlib.Omega.{arith}
-use lib.ListN.{length, drop, getD, set, replicate, drop-of-length-le}
-use lib.Seq.{drop-cons, getD-set-same, getD-set-other, set-out}
-use borrow.Author.Tests.{leb-true, le-leb}
+use lib.ListN.{length, take, drop, getD, set, replicate, length-take, drop-of-length-le}
+use lib.Seq.{drop-cons, drop-at, getD-set-same, getD-set-other, length-take-le, set-out, take-add, take-all, take-take}
+use borrow.Author.Tests.{leb-true, leb-false, le-leb}
 use lib.Dec.{leb}
 use native.Mathlib.Decide.{ℕ-discrete, decLt}
 use Rattle.wire.specs.Lists.{all, atMost, EachBelow, bump, joinIf, keep}
+
+-- a test passes or fails
+pub either : (t : Bool) → (t ≡ true) ⊎ (t ≡ false)
+either true = inl refl
+either false = inr refl
 
 and-assoc : (a b c : Bool) → ((a && b) && c) ≡ (a && (b && c))
 and-assoc true b c = refl
@@ -160,3 +165,40 @@ module _ {A : Type 0} where
   unfolding keep
   length-keep p [] = le-refl 0
   length-keep p (x ∷ xs) = join-length (p x) x (keep p xs) (length-keep p xs)
+
+-- ---- parts of parts
+
+module _ {A : Type 0} where
+  pub take-least : (m n : ℕ) (l : List A) → take m (take n l) ≡ take (min m n) l
+  take-least m n l =
+      ⊎-elim
+      (λ e. let h : m ≤ n = leb-true m n e in let k : min m n ≡ m = omega arith in rw k (take-take m n l h))
+      (λ e.
+      let h : n < m = leb-false m n e in
+      let k : min m n ≡ n = omega arith in
+      rw k (take-all m (take n l) (omega (arith, length-take n l))))
+      (either (leb m n))
+
+  drop-take : (f n : ℕ) (s : List A) → f ≤ length s → drop f (take (f + n) s) ≡ take n (drop f s)
+  drop-take f n s h = ap (drop f) (take-add f n s) ∙ drop-at (take f s) (take n (drop f s)) f (length-take-le f s h)
+
+  -- at most w elements from f on, of the first `reach`
+  pub part-of-reach : (s : List A) (w f reach : ℕ) → f ≤ reach → reach ≤ length s
+      → take w (drop f (take reach s)) ≡ take (min w (reach - f)) (drop f s)
+  part-of-reach s w f reach h g =
+      let e : reach ≡ f + (reach - f) = omega arith in
+      ap (λ (n : ℕ). take w (drop f (take n s))) e
+      ∙ ap (take w) (drop-take f (reach - f) s (omega arith))
+      ∙ take-least w (reach - f) (drop f s)
+
+-- ---- choices
+
+-- what holds of either holds of the one that is chosen
+pub choice : {A : Type 0} (P : A → Type 0) (b : Bool) (x y : A) → (b ≡ true → P x) → (b ≡ false → P y) → P (cond b x y)
+choice P true x y f g = f refl
+choice P false x y f g = g refl
+
+-- a test is passed or not
+pub decide : {G : Type 0} (b : Bool) → (b ≡ true → G) → (b ≡ false → G) → G
+decide true f g = f refl
+decide false f g = g refl

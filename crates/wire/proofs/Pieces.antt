@@ -10,8 +10,10 @@ use mathlib.Core.Logic.{⊎-elim}
 use lib.ListN.{length, take, getD, set, replicate, length-append, length-replicate, length-set, List·getD-append}
 use lib.Seq.{take-suc, take-suc-set, take-all, length-take-le, getD-append-add, ext-getD, getD-at, set-append-seam, set-append-left, append-snoc}
 use Rattle.wire.specs.Bytes.{one, zeros, total, words, be32}
-use Rattle.wire.proofs.Bytes.{total-append}
-use Rattle.wire.proofs.Lists.{and-split}
+use borrow.Author.Tests.{le-leb}
+use Rattle.wire.specs.Lists.{all, atMost}
+use Rattle.wire.proofs.Bytes.{total-append, zeros-more}
+use Rattle.wire.proofs.Lists.{and-split, all-append}
 use Rattle.wire.specs.Pieces.{runs, table, each, filledUp, padded}
 
 -- ---- runs
@@ -102,6 +104,21 @@ module _ (f : ℕ → ℕ) where
   pub total-more : (n : ℕ) → total (table (n + 1) f) ≡ total (table n f) + f n
   unfolding total
   total-more n = ap total (table-more n) ∙ total-append (table n f) (one (f n)) ∙ omega arith
+
+-- tables that agree
+pub same-table : (n : ℕ) (f g : ℕ → ℕ) → ((i : ℕ) → i < n → f i ≡ g i) → table n f ≡ table n g
+same-table n f g h = table-is f n (table n g) (length-table g n) (λ i l. h i l ∙ sym (table-at g n i l))
+
+pub table-zeros : (n : ℕ) → table n (λ i. 0) ≡ zeros n
+unfolding table
+table-zeros zero = refl
+table-zeros (suc n) = ap (λ (l : List ℕ). l ++ 0 ∷ []) (table-zeros n) ∙ zeros-more n ∙ ap zeros (add-one n)
+
+-- each number of a table is at most m, if each of its values is
+pub table-most : (n m : ℕ) (f : ℕ → ℕ) → ((i : ℕ) → f i ≤ m) → all (atMost m) (table n f) ≡ true
+unfolding table
+table-most zero m f h = refl
+table-most (suc n) m f h = all-append (atMost m) (table n f) (f n ∷ []) (table-most n m f h) (rw (le-leb (f n) m (h n)))
 
 -- ---- tests
 

@@ -1,9 +1,9 @@
 -- Tests and counts on lists that several crates share. Assumes nothing.
 use Prim.Native.Nat.{ℕ, _+_, _<_}
-use mathlib.Core.Bool.{Bool, true, false, _&&_}
+use mathlib.Core.Bool.{Bool, true, false, _&&_, _||_}
 use mathlib.Core.List.{List, [], _∷_}
 use lib.ListN.{getD, set}
-use lib.Dec.{leb}
+use lib.Dec.{leb, eqb}
 
 -- each element passes the test
 abbrev pub all : {A : Type 0} → (A → Bool) → List A → Bool
@@ -17,6 +17,11 @@ atMost limit x = leb x limit
 -- every number of the list is below n
 abbrev pub EachBelow : ℕ → List ℕ → Type 0
 EachBelow n xs = (k : ℕ) → getD xs k 0 < n
+
+-- the number is in the list
+abbrev pub holds : ℕ → List ℕ → Bool
+holds n [] = false
+holds n (x ∷ xs) = eqb n x || holds n xs
 
 -- one more at index i
 abbrev pub bump : List ℕ → ℕ → List ℕ

@@ -1,3 +1,4 @@
-// Bytes in lent buffers: big-endian numbers and runs of bytes, written and read, and the sum of bytes.
+// Bytes in lent buffers: big-endian numbers and runs of bytes, written and read, and the sum of bytes; single bits.
+pub mod bits;
 pub mod read;
 pub mod write;

@@ -1,3 +1,4 @@
+-- `read` refuses by the number, and otherwise each arm of the match answers what the packet's kind holds.
 use borrow.Author.Needs.{needs}
 use mathlib.Core.Path.{_≡_, sym, ap, _∙_}
 use mathlib.Core.List.{List}
@@ -17,7 +18,8 @@ bytes c = now (c .before .before .args .packet)
 is-zero : (c : tie.Else1) → readNumber (bytes (c .before)) ≡ 0
 is-zero c = sym (c .before .number .ensures) ∙ c .if1 .left
 
-kind-is : (c : tie.After-kind-of) (k : Kind) → c .kind-of .result ≡ k → kindOf (applicationOf (bytes (c .before .before .before))) ≡ k
+kind-is : (c : tie.After-kind-of) (k : Kind) → c .kind-of .result ≡ k
+    → kindOf (applicationOf (bytes (c .before .before .before))) ≡ k
 kind-is c k e = sym (c .kind-of .ensures ∙ ap kindOf (c .before .application .ensures)) ∙ e
 
 number-requires : tie.Need-number-requires
@@ -69,7 +71,8 @@ refused-requires-2 : tie.Need-refused-requires-2
 refused-requires-2 c κs = search needs
 
 -- each arm answers what its kind holds
-arm : (c : tie.After-kind-of) (k : Kind) → c .kind-of .result ≡ k → contents k (bytes (c .before .before .before)) ≡ readOf (bytes (c .before .before .before))
+arm : (c : tie.After-kind-of) (k : Kind) → c .kind-of .result ≡ k
+    → contents k (bytes (c .before .before .before)) ≡ readOf (bytes (c .before .before .before))
 arm c k e = sym (read-accepted _ k (is-zero (c .before .before)) (kind-is c k e))
 
 returns-2 : tie.Need-returns-2

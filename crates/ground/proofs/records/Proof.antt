@@ -1,3 +1,4 @@
+-- `records` hands back a part only where the packet is an accepted one of samples, which has 272 bytes.
 use borrow.Author.Needs.{needs}
 use mathlib.Core.Path.{sym, _∙_}
 use native.Mathlib.Omega.{arith}

@@ -1,3 +1,4 @@
+-- `samples_in` asks for the kind only where the number is 0, and so the packet has 272 bytes.
 use borrow.Author.Needs.{needs}
 use mathlib.Core.Path.{_≡_, sym, ap, _∙_}
 use borrow.Author.Tests.{eq-eqb, ne-eqb}

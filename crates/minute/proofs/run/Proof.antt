@@ -1,3 +1,4 @@
+-- The input stays within the buffer from record to record, and the records left become fewer.
 use mathlib.Core.Path.{_≡_}
 use native.Mathlib.Omega.{arith}
 use lib.ListN.{length}
@@ -8,7 +9,9 @@ use Rattle.minute.proofs.run.Statement.{statement}
 use Rattle.minute.proofs.run.Tie as tie
 
 abbrev Inv-loop : tie.InvT-loop
-Inv-loop tables₀ staging slots₀ buffer₀ text₀ state₀ input₀ at₀ records₀ tables slots buffer text state input at records = (length tables ≡ length tables₀) × (length slots ≡ length slots₀) × (length buffer ≡ length buffer₀) × (length text ≡ length text₀) × Held input buffer
+Inv-loop tables₀ staging slots₀ buffer₀ text₀ state₀ input₀ at₀ records₀ tables slots buffer text state input at records =
+    (length tables ≡ length tables₀) × (length slots ≡ length slots₀) × (length buffer ≡ length buffer₀) × (length text ≡ length text₀)
+    × Held input buffer
 
 abbrev μ-loop : tie.MeasureT-loop
 μ-loop tables₀ staging slots₀ buffer₀ text₀ state₀ input₀ at₀ records₀ tables slots buffer text state input at records = records
@@ -27,7 +30,8 @@ next-requires c κs = search needs
 
 step-requires : tie.Need-step-requires Inv-loop μ-loop
 step-requires c κs =
-    let n = c .before .before .before .before .before .before .before .next in
+    let k = c .before .before .before .before .before .before .before in
+    let n = k .next in
     first-lies (n .result) _ (n .last .0) (n .ensures)
 
 left-requires : tie.Need-left-requires Inv-loop μ-loop

@@ -1,10 +1,12 @@
+-- `main` lends each writer a part of 272 bytes, lists of its length and counts that have codes, and a p to 10.
 use borrow.Author.Needs.{needs}
-use mathlib.Core.Path.{refl}
+use mathlib.Core.Path.{refl, ap}
 use mathlib.Core.List.{[], _∷_}
 use native.Mathlib.Omega.{arith}
-use Rattle.wire.proofs.Lists.{all-at}
+use Rattle.wire.proofs.Lists.{all-at, each-zeros}
+use Rattle.packet.specs.declared.stamp.Stamp.{Stamp}
 use Rattle.packet.specs.Rate.{countLimit}
-use Rattle.packet_cases.proofs.Laws.{zeros-below}
+use Rattle.packet.specs.Layout.{boxCount, beaconCount}
 use Rattle.packet_cases.proofs.main.Statement.{statement}
 use Rattle.packet_cases.proofs.main.Tie as tie
 
@@ -12,7 +14,10 @@ slice-aggregate-fill-counts : tie.Need-slice-aggregate-fill-counts
 slice-aggregate-fill-counts c = search needs
 
 fill-counts-requires : tie.Need-fill-counts-requires
-fill-counts-requires c κs = (omega arith, zeros-below countLimit 116 (omega arith))
+fill-counts-requires c κs = (omega arith, each-zeros countLimit boxCount (omega arith))
+
+stamp-of-requires : tie.Need-stamp-of-requires
+stamp-of-requires c κs = search needs
 
 slice-aggregate-write-rate : tie.Need-slice-aggregate-write-rate
 slice-aggregate-write-rate c = search needs
@@ -25,7 +30,7 @@ slice-aggregate-write-rate-3 c = search needs
 
 write-rate-requires : tie.Need-write-rate-requires
 write-rate-requires c κs =
-    let b = c .before .before .before .before in
+    let b = c .before .before .before .before .before in
     let totals-below = all-at 16777215 (4095 ∷ 4096 ∷ 4097 ∷ 8191 ∷ 8192 ∷ 1000000 ∷ 16777215 ∷ 0 ∷ []) in
     (refl, ((refl, b .fill-counts .kept .0), ((λ k. omega (arith, totals-below k refl), b .fill-counts .ensures), omega arith)))
 
@@ -50,11 +55,16 @@ fill-records-requires c κs = search needs
 slice-aggregate-write-samples : tie.Need-slice-aggregate-write-samples
 slice-aggregate-write-samples c = search needs
 
+stamp-of-requires-2 : tie.Need-stamp-of-requires-2
+stamp-of-requires-2 c κs = search needs
+
 slice-aggregate-write-samples-2 : tie.Need-slice-aggregate-write-samples-2
 slice-aggregate-write-samples-2 c = search needs
 
 write-samples-requires : tie.Need-write-samples-requires
-write-samples-requires c κs = search needs
+write-samples-requires c κs =
+    let m = ap (λ (t : Stamp). t .mark) (c .before .stamp-of2 .ensures) in
+    (search needs, omega arith)
 
 slice-aggregate-packet-2 : tie.Need-slice-aggregate-packet-2
 slice-aggregate-packet-2 c = search needs
@@ -72,10 +82,13 @@ slice-aggregate-fill-counts-2 : tie.Need-slice-aggregate-fill-counts-2
 slice-aggregate-fill-counts-2 c = search needs
 
 fill-counts-requires-2 : tie.Need-fill-counts-requires-2
-fill-counts-requires-2 c κs = (omega arith, zeros-below countLimit 12 (omega arith))
+fill-counts-requires-2 c κs = (omega arith, each-zeros countLimit beaconCount (omega arith))
 
 slice-aggregate-write-beacon : tie.Need-slice-aggregate-write-beacon
 slice-aggregate-write-beacon c = search needs
+
+stamp-of-requires-3 : tie.Need-stamp-of-requires-3
+stamp-of-requires-3 c κs = search needs
 
 slice-aggregate-write-beacon-2 : tie.Need-slice-aggregate-write-beacon-2
 slice-aggregate-write-beacon-2 c = search needs
@@ -104,6 +117,7 @@ main-spec =
     (tie.spec
     slice-aggregate-fill-counts
     fill-counts-requires
+    stamp-of-requires
     slice-aggregate-write-rate
     slice-aggregate-write-rate-2
     slice-aggregate-write-rate-3
@@ -115,6 +129,7 @@ main-spec =
     slice-aggregate-fill-records
     fill-records-requires
     slice-aggregate-write-samples
+    stamp-of-requires-2
     slice-aggregate-write-samples-2
     write-samples-requires
     slice-aggregate-packet-2
@@ -124,6 +139,7 @@ main-spec =
     slice-aggregate-fill-counts-2
     fill-counts-requires-2
     slice-aggregate-write-beacon
+    stamp-of-requires-3
     slice-aggregate-write-beacon-2
     write-beacon-requires
     slice-aggregate-packet-3

@@ -1,3 +1,4 @@
+-- The input stays within the buffer from record to record, and the records left become fewer.
 use mathlib.Core.Path.{_≡_}
 use lib.ListN.{length}
 use Rattle.stream.specs.Input.{Held}
@@ -6,10 +7,15 @@ use Rattle.replay.proofs.run.Statement.{statement}
 use Rattle.replay.proofs.run.Tie as tie
 
 abbrev Inv-loop : tie.InvT-loop
-Inv-loop tables₀ staging₀ slots₀ echo₀ buffer₀ text₀ state₀ input₀ at₀ records₀ tables staging slots echo buffer text state input at records = (length tables ≡ length tables₀) × (length staging ≡ length staging₀) × (length slots ≡ length slots₀) × (length echo ≡ length echo₀) × (length buffer ≡ length buffer₀) × (length text ≡ length text₀) × Held input buffer
+Inv-loop tables₀ staging₀ slots₀ echo₀ buffer₀ text₀ state₀ input₀ at₀ records₀
+    tables staging slots echo buffer text state input at records =
+    (length tables ≡ length tables₀) × (length staging ≡ length staging₀) × (length slots ≡ length slots₀) × (length echo ≡ length echo₀)
+    × (length buffer ≡ length buffer₀) × (length text ≡ length text₀) × Held input buffer
 
 abbrev μ-loop : tie.MeasureT-loop
-μ-loop tables₀ staging₀ slots₀ echo₀ buffer₀ text₀ state₀ input₀ at₀ records₀ tables staging slots echo buffer text state input at records = records
+μ-loop tables₀ staging₀ slots₀ echo₀ buffer₀ text₀ state₀ input₀ at₀ records₀
+    tables staging slots echo buffer text state input at records =
+    records
 
 fresh-requires : tie.Need-fresh-requires Inv-loop μ-loop
 fresh-requires c κs = search needs

@@ -1,3 +1,4 @@
+-- The body that `step` hands on lies in the buffer, and so does the input behind it.
 use mathlib.Core.Path.{subst}
 use Prim.Native.Nat.{ℕ}
 use mathlib.Core.List.{List}
@@ -12,21 +13,19 @@ use borrow.Author.Needs.{needs}
 use Rattle.replay.proofs.step.Statement.{statement}
 use Rattle.replay.proofs.step.Tie as tie
 
--- the record that was found, and the bytes that waited before it was looked for
+-- where the record was looked for, and the bytes that waited before that
+abbrev looked : tie.After-found → tie.After-next
+looked c = c .before .before .before .before
+
 abbrev waited : tie.After-found → List ℕ
 waited c =
-    let s = c .before .before .before .before .before .before .before .before .before .before .before .before in
+    let s = looked c .before .before .before .before .before .before .before .before in
     waitingIn (s .args .input) (now (s .args .buffer))
 
-lies :
-    (c : tie.After-found) →
-    FirstOf
-    (Record (c .found .given .0 .0) (c .found .given .0 .1 .0) (c .found .given .0 .1 .1 .0))
-    (waited c)
-    (c .before .before .before .before .next .last .0)
-lies c =
-    let n = c .before .before .before .before .next in
-    subst (λ (x : Next). FirstOf x (waited c) (n .last .0)) (c .found .given .1) (n .ensures)
+-- the record that was found stands first there
+lies : (c : tie.After-found) →
+    let x = c .found .given .0 in FirstOf (Record (x .0) (x .1 .0) (x .1 .1 .0) (x .1 .1 .1 .0)) (waited c) (looked c .next .last .0)
+lies c = subst (λ (x : Next). FirstOf x (waited c) (looked c .next .last .0)) (c .found .given .1) (looked c .next .ensures)
 
 next-requires : tie.Need-next-requires
 next-requires c κs = search needs
@@ -59,7 +58,7 @@ carry-out-requires : tie.Need-carry-out-requires
 carry-out-requires c κs =
     let b = c .before .before .before .before .before .before in
     let f = b .before .before .before in
-    subst (LongAs (f .found .given .0 .0)) (b .body .given .1) (lies f .1 .0)
+    subst (LongAs (f .found .given .0 .0)) (b .body .given .1) (lies f .1 .1)
 
 going-on-requires : tie.Need-going-on-requires
 going-on-requires c κs = search needs
@@ -93,15 +92,18 @@ same-length-7 c = search needs
 
 same-length-8 : tie.Need-same-length-8
 same-length-8 c =
-    c .before .before .before .before .before .before .before .before .before .before .before .before .before .before .before .before .before .before .before .before .before .before .before .before .before .next .kept .0
+    let x = c .before .before .before .before .before .before .before .before .before .before .before .before in
+    let n = x .before .before .before .before .before .before .before .before .before .before .before .before .before in
+    n .next .kept .0
 
 same-length-9 : tie.Need-same-length-9
 same-length-9 c = search needs
 
 returns-3 : tie.Need-returns-3
 returns-3 c =
-    let l = lies (c .before .before .before .before .before .before .before .before .before .before .before .before .before .before .before .before .before .before .before .before .before) in
-    omega (arith, c .going-on .ensures, l .0 .2)
+    let x = c .before .before .before .before .before .before .before .before .before .before .before .before in
+    let f = x .before .before .before .before .before .before .before .before .before in
+    omega (arith, c .going-on .ensures, lies f .0 .2)
 
 pub step-spec : {M : Type 1} → statement M
 step-spec =

@@ -1,3 +1,4 @@
+-- `counted_numbers` reads each count within the slice.
 use Prim.Native.Nat.{_≤_, _-_}
 use lib.ListN.{length}
 use borrow.Author.Needs.{needs}

@@ -1,3 +1,4 @@
+-- `fill` writes 20,995 words of three bytes, each within the tables, whose length stays.
 use Prim.Native.Nat.{_≤_, _-_}
 use lib.ListN.{length}
 use mathlib.Core.Path.{_≡_}

@@ -1,3 +1,4 @@
+-- `place_all` keeps the number of slots, so that LIMHI stays within them at every call of `place`.
 use Prim.Native.Nat.{_≤_, _-_}
 use lib.ListN.{length}
 use mathlib.Core.Path.{_≡_}
@@ -6,10 +7,10 @@ use Rattle.sort_cases.proofs.place_all.Statement.{statement}
 use Rattle.sort_cases.proofs.place_all.Tie as tie
 
 abbrev Inv-loop : tie.InvT-loop
-Inv-loop slots₀ limhi used₀ replaced₀ i₀ slots used replaced i = (i ≤ 710) × (length slots ≡ length slots₀)
+Inv-loop slots₀ limhi kept₀ i₀ slots kept i = (i ≤ 710) × (length slots ≡ length slots₀)
 
 abbrev μ-loop : tie.MeasureT-loop
-μ-loop slots₀ limhi used₀ replaced₀ i₀ slots used replaced i = 710 - i
+μ-loop slots₀ limhi kept₀ i₀ slots kept i = 710 - i
 
 loop-holds : tie.Need-loop-holds Inv-loop μ-loop
 loop-holds c = search needs

@@ -1,3 +1,4 @@
+-- `show` sorts an event only where the test of its fields passed.
 use mathlib.Core.Path.{sym, _∙_}
 use borrow.Author.Needs.{needs}
 use Rattle.sort_cases.proofs.show.Statement.{statement}
@@ -15,7 +16,8 @@ in-range-requires c κs = search needs
 show-sorted-requires : tie.Need-show-sorted-requires
 show-sorted-requires c κs =
     let r = c .before in
-    (r .before .before .before .before .pre, sym (r .in-range .ensures) ∙ c .if1 .taken)
+    let w = r .before .before in
+    (w .before .before .pre, sym (r .in-range .ensures) ∙ c .if1 .taken)
 
 number-requires : tie.Need-number-requires
 number-requires c κs = search needs

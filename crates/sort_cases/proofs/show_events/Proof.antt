@@ -1,3 +1,4 @@
+-- `show_events` reads the five numbers of each of 16 events within the list of 80.
 use Prim.Native.Nat.{_≤_, _-_}
 use borrow.Author.Needs.{needs}
 use Rattle.sort_cases.proofs.show_events.Statement.{statement}

@@ -1,3 +1,4 @@
+-- `show_slots` reads each slot within the slice, and a slot fits the number printed.
 use Prim.Native.Nat.{_≤_, _-_}
 use native.Mathlib.Omega.{arith}
 use lib.ListN.{length}

@@ -1,3 +1,4 @@
+-- `show_sorted` may count what it sorted, since every outcome names boxes and beacons that there are.
 use mathlib.Core.Path.{sym, subst}
 use native.Mathlib.Omega.{arith}
 use denote.Ref.{now}

@@ -1,3 +1,4 @@
+-- `all_digits` stops at the first byte that is no digit.
 use Prim.Native.Nat.{_≤_, _-_}
 use mathlib.Core.Path.{_≡_, sym, _∙_}
 use native.Mathlib.Omega.{arith}
@@ -29,7 +30,8 @@ is-digit-requires c κs = search needs
 returns : tie.Need-returns Inv-loop μ-loop
 returns c =
     let l = c .before .before .before .before in
-    sym (all-stop isDigit (now (l .before .before .args .w)) 0 (l .loop .i) (omega arith) (sym (c .before .is-digit .ensures) ∙ not-true _ (c .if1 .taken)) (l .loop .inv .1))
+    let e = sym (c .before .is-digit .ensures) ∙ not-true _ (c .if1 .taken) in
+    sym (all-stop isDigit (now (l .before .before .args .w)) 0 (l .loop .i) (omega arith) e (l .loop .inv .1))
 
 add-i : tie.Need-add-i Inv-loop μ-loop
 add-i c = search needs
@@ -40,7 +42,8 @@ loop-less c = search needs
 loop-again : tie.Need-loop-again Inv-loop μ-loop
 loop-again c =
     let l = c .before .before .before .before in
-    (omega arith, all-step isDigit (now (l .before .before .args .w)) 0 (l .loop .i) (omega arith) (sym (c .before .is-digit .ensures) ∙ not-false _ (c .if1 .left)) (l .loop .inv .1))
+    let e = sym (c .before .is-digit .ensures) ∙ not-false _ (c .if1 .left) in
+    (omega arith, all-step isDigit (now (l .before .before .args .w)) 0 (l .loop .i) (omega arith) e (l .loop .inv .1))
 
 returns-2 : tie.Need-returns-2 Inv-loop μ-loop
 returns-2 c =

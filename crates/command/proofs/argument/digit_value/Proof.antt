@@ -1,3 +1,4 @@
+-- `digit_value` tells figures from letters, and neither goes below its first.
 use native.Mathlib.Omega.{arith}
 use borrow.Author.Tests.{le-leb, lt-leb}
 use Rattle.command.proofs.DigitLaws.{digit-low, digit-high}

@@ -1,3 +1,4 @@
+-- `value` takes the digits from the first on, and six of them stay below 16 to the sixth.
 use Prim.Native.Nat.{ℕ, _≤_, _<_, _+_, _-_, _*_, _^_}
 use mathlib.Core.Path.{_≡_, refl, sym, ap, _∙_}
 use native.Mathlib.Omega.{arith}
@@ -51,7 +52,9 @@ loop-again c =
     let r = c .digit-value .result in (
       omega arith,
       hex-room n r i (omega arith) (omega arith) (omega arith) .0,
-      ap (λ (d : ℕ). hexBehind (16 * n + d) (drop (i + 1) w)) (c .digit-value .ensures .0) ∙ sym (hex-step n w i (omega arith)) ∙ l .loop .inv .2,
+      ap (λ (d : ℕ). hexBehind (16 * n + d) (drop (i + 1) w)) (c .digit-value .ensures .0)
+          ∙ sym (hex-step n w i (omega arith))
+          ∙ l .loop .inv .2,
     )
 
 returns : tie.Need-returns Inv-loop μ-loop

@@ -1,3 +1,4 @@
+-- `finish` writes the ending, and zeros behind it to the end of the buffer.
 use Prim.Native.Nat.{ℕ, _+_, _-_}
 use mathlib.Core.Path.{_≡_, refl, ap, _∙_}
 use mathlib.Core.List.{_++_}

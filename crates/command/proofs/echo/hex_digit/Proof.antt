@@ -1,3 +1,4 @@
+-- `hex_digit` gives the letter or the figure of a value below 16.
 use borrow.Author.Tests.{le-leb, lt-leb}
 use borrow.Author.Needs.{needs}
 use Rattle.command.proofs.echo.hex_digit.Statement.{statement}

@@ -1,3 +1,4 @@
+-- `put_hex2` writes the high and then the low digit.
 use mathlib.Core.Path.{refl, _∙_}
 use mathlib.Core.List.{[], _∷_}
 use native.Mathlib.Omega.{arith}

@@ -1,3 +1,4 @@
+-- `put_hex8` writes the four bytes of the number, two digits each.
 use mathlib.Core.Path.{refl}
 use native.Mathlib.Omega.{arith}
 use Rattle.wire.proofs.Bytes.{then}

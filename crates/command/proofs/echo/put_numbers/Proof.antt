@@ -1,3 +1,4 @@
+-- `put_numbers` writes the address and the number of bytes, each behind its text.
 use mathlib.Core.Path.{refl}
 use native.Mathlib.Omega.{arith}
 use Rattle.wire.proofs.Bytes.{then}

@@ -1,3 +1,4 @@
+-- `write_accepted` writes frame, sequence number, line and ending, which together are the accepted echo.
 use Prim.Native.Nat.{ℕ, _+_, _%_}
 use mathlib.Core.Path.{refl}
 use mathlib.Core.List.{List, _++_}
@@ -49,7 +50,9 @@ returns c =
     let line = now (s .args .line) in
     let front : List ℕ = hex2 (s .args .frame % 256) ++ hex2 (s .args .sequence) ++ text " " in
     echo-ends xs (front ++ line) (5 + length line) (s .pre .0) (length-append front line) (omega arith)
-    (then xs 0 front line 5 (then xs 0 _ _ 4 (then xs 0 _ _ 2 (c1 .put-hex2 .ensures) (c2 .put-hex22 .ensures) refl (omega arith)) (c3 .put-u8 .ensures) refl (omega arith))
+    (then xs 0 front line 5
+    (then xs 0 _ _ 4 (then xs 0 _ _ 2 (c1 .put-hex2 .ensures) (c2 .put-hex22 .ensures) refl (omega arith))
+    (c3 .put-u8 .ensures) refl (omega arith))
     (c4 .put-bytes .ensures) refl (omega arith))
     (c5 .finish .ensures)
 

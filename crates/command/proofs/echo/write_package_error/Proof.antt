@@ -1,3 +1,4 @@
+-- `write_package_error` writes the numbers, both sums and the ending, which together are the echo of a wrong sum.
 use Prim.Native.Nat.{ℕ}
 use mathlib.Core.Path.{refl}
 use mathlib.Core.List.{List, _++_}
@@ -50,7 +51,10 @@ returns c =
     let p : List ℕ = numbers (a .address) (a .placed) in
     let q : List ℕ = p ++ text " ckserr " ++ hex8 (a .received) ++ text " " in
     echo-ends xs (q ++ hex8 (a .computed)) 53 (s .pre) refl (omega arith)
-    (then xs 0 q _ 45 (then xs 0 _ _ 44 (then xs 0 _ _ 36 (then xs 0 p (text " ckserr ") 28 (c1 .put-numbers .ensures) (c2 .put-bytes .ensures) refl (omega arith)) (c3 .put-hex8 .ensures) refl (omega arith))
+    (then xs 0 q _ 45
+    (then xs 0 _ _ 44
+    (then xs 0 _ _ 36 (then xs 0 p (text " ckserr ") 28 (c1 .put-numbers .ensures) (c2 .put-bytes .ensures) refl (omega arith))
+    (c3 .put-hex8 .ensures) refl (omega arith))
     (c4 .put-u8 .ensures) refl (omega arith))
     (c5 .put-hex82 .ensures) refl (omega arith))
     (c6 .finish .ensures)

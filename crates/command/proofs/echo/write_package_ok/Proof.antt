@@ -1,3 +1,4 @@
+-- `write_package_ok` writes the numbers, OK and the ending, which together are the echo of a right package.
 use Prim.Native.Nat.{ℕ}
 use mathlib.Core.Path.{refl}
 use mathlib.Core.List.{List, _++_}

@@ -1,3 +1,4 @@
+-- `write_prompt` writes the prompt and zeros behind it.
 use mathlib.Core.Path.{refl}
 use native.Mathlib.Omega.{arith}
 use denote.Ref.{now}

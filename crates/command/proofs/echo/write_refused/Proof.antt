@@ -1,3 +1,4 @@
+-- `write_refused` writes the line, a question mark and the ending, which together are the refused echo.
 use Prim.Native.Nat.{_+_}
 use mathlib.Core.List.{_++_}
 use native.Mathlib.Omega.{arith}

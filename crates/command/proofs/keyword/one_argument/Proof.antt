@@ -1,3 +1,4 @@
+-- `one_argument` goes by whether the argument is well formed.
 use mathlib.Core.Path.{sym, ap, _∙_}
 use denote.Ref.{now}
 use Rattle.command.specs.declared.argument.Argument.{Argument}
@@ -18,8 +19,9 @@ enum-told c = search needs
 returns : tie.Need-returns
 unfolding oneArgument
 returns c =
-    let s = c .before .before .before .before .before in
-    c .with-one .ensures ∙ sym (ap (λ (x : Argument). oneArgument (now (s .args .keyword)) x (s .args .reach)) (c .before .before .n .given .1))
+    let n = c .before .before in
+    let s = n .before .before .before .args in
+    c .with-one .ensures ∙ sym (ap (λ (x : Argument). oneArgument (now (s .keyword)) x (s .reach)) (n .n .given .1))
 
 returns-2 : tie.Need-returns-2
 unfolding oneArgument

@@ -1,3 +1,4 @@
+-- `right_if` gives the line where the test is passed, and a wrong one otherwise.
 use Rattle.command.specs.Grammar.{rightIf}
 use Rattle.command.proofs.keyword.right_if.Statement.{statement}
 use Rattle.command.proofs.keyword.right_if.Tie as tie

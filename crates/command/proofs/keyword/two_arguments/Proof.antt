@@ -1,3 +1,4 @@
+-- `two_arguments` goes by whether both arguments are well formed.
 use mathlib.Core.Path.{sym, ap, _∙_}
 use denote.Ref.{now}
 use Rattle.command.specs.declared.argument.Argument.{Argument}

@@ -1,3 +1,4 @@
+-- `bytes_ok` judges the length before it reads a byte.
 use borrow.Author.Needs.{needs}
 use borrow.Author.Tests.{le-leb, lt-leb}
 use Rattle.command.proofs.line.bytes_ok.Statement.{statement}

@@ -1,3 +1,4 @@
+-- `parse` cuts the line at its first two spaces, and those words decide what the line is.
 use Prim.Native.Nat.{ℕ, _+_, _-_}
 use mathlib.Core.Path.{_≡_, sym, ap, _∙_}
 use mathlib.Core.List.{List}
@@ -23,8 +24,9 @@ word-length-requires c κs = search needs
 
 returns-2 : tie.Need-returns-2
 returns-2 c =
-    let s = c .before .before .before .before .args in
-    sym (line-bare (now (s .line)) (s .reach) (c .before .word-length .result) (c .before .before .if1 .left) (c .before .word-length .ensures .0) (c .if2 .taken))
+    let w = c .before in
+    let s = w .before .before .before .args in
+    sym (line-bare (now (s .line)) (s .reach) (w .word-length .result) (w .before .if1 .left) (w .word-length .ensures .0) (c .if2 .taken))
 
 slice-aggregate-keyword : tie.Need-slice-aggregate-keyword
 slice-aggregate-keyword c = sym (length-take-le _ _ (omega arith))
@@ -64,7 +66,8 @@ returns-3 c =
     let lr : length rest ≡ length line - (k + 1) = length-part line (k + 1) (length line - (k + 1)) (omega arith) in
     c .one-argument .ensures
     ∙ ap (λ (a : Argument). oneArgument (take k line) a (s .reach)) (c .before .argument-of .ensures)
-    ∙ sym (line-one line (s .reach) k (e1 .if1 .left) (w1 .word-length .ensures .0) rest (rest-is line (k + 1)) (e2 .if2 .left) (omega arith))
+    ∙ sym
+    (line-one line (s .reach) k (e1 .if1 .left) (w1 .word-length .ensures .0) rest (rest-is line (k + 1)) (e2 .if2 .left) (omega arith))
 
 slice-aggregate-argument-of : tie.Need-slice-aggregate-argument-of
 slice-aggregate-argument-of c = sym (length-take-le _ _ (omega arith))
@@ -108,7 +111,9 @@ returns-4 c =
     let last : List ℕ = take (length rest - (m + 1)) (drop (m + 1) rest) in
     c .two-arguments .ensures
     ∙ (λ i. twoArguments (take k line) (a2 .argument-of2 .ensures i) (a3 .argument-of3 .ensures i) (s .reach))
-    ∙ sym (line-two line (s .reach) k (e1 .if1 .left) (w1 .word-length .ensures .0) rest (rest-is line (k + 1)) (e2 .if2 .left) m last (w2 .word-length2 .ensures .0) (rest-is rest (m + 1)) (omega arith))
+    ∙ sym
+    (line-two line (s .reach) k (e1 .if1 .left) (w1 .word-length .ensures .0) rest (rest-is line (k + 1)) (e2 .if2 .left)
+    m last (w2 .word-length2 .ensures .0) (rest-is rest (m + 1)) (omega arith))
 
 pub parse-spec : {M : Type 1} → statement M
 parse-spec =

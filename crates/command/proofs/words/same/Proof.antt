@@ -1,3 +1,4 @@
+-- `same` compares the lengths, and then byte for byte.
 use Prim.Native.Nat.{_≤_, _-_}
 use mathlib.Core.Path.{_≡_, refl, sym, _∙_}
 use native.Mathlib.Omega.{arith}
@@ -42,8 +43,8 @@ loop-less c = search needs
 loop-again : tie.Need-loop-again Inv-loop μ-loop
 loop-again c =
     let l = c .before .before .before .before in
-    let s = l .before .before in
-    (omega arith, l .loop .inv .1 ∙ same-step (now (s .args .a)) (now (s .args .b)) (l .loop .i) (omega arith) (omega arith) (c .if2 .left))
+    let s = l .before .before .args in
+    (omega arith, l .loop .inv .1 ∙ same-step (now (s .a)) (now (s .b)) (l .loop .i) (omega arith) (omega arith) (c .if2 .left))
 
 returns-3 : tie.Need-returns-3 Inv-loop μ-loop
 returns-3 c =

@@ -1,3 +1,4 @@
+-- `word_length` counts to the first space, or to the end where there is none.
 use Prim.Native.Nat.{_≤_, _+_, _-_}
 use mathlib.Core.Path.{_≡_}
 use native.Mathlib.Omega.{arith}

@@ -1,3 +1,4 @@
+-- `fill` writes every byte of the part, each made from the one before.
 use native.Mathlib.Omega.{arith}
 use mathlib.Core.Path.{_≡_}
 use lib.ListN.{length, length-set}

@@ -1,7 +1,9 @@
+-- `load_case` runs a load only where it is lawful.
 use mathlib.Core.Path.{sym, _∙_}
 use borrow.Author.Needs.{needs}
 use Rattle.command_cases.proofs.cases.load_case.Statement.{statement}
 use Rattle.command_cases.proofs.cases.load_case.Tie as tie
+use Rattle.wire.proofs.read.u24_at.Reads as u24-at-reads
 
 returns : tie.Need-returns
 returns c = search needs
@@ -18,20 +20,14 @@ u24-at-requires-2 c κs = search needs
 load-lawful-requires : tie.Need-load-lawful-requires
 load-lawful-requires c κs = search needs
 
+run-requires : tie.Need-run-requires
+run-requires c κs = sym (c .before .load-lawful .ensures) ∙ c .if2 .taken
+
 slice-aggregate-text : tie.Need-slice-aggregate-text
 slice-aggregate-text c = search needs
 
 text-requires : tie.Need-text-requires
 text-requires c κs = search needs
-
-run-requires : tie.Need-run-requires
-run-requires c κs = let t = c .before .before in sym (t .before .load-lawful .ensures) ∙ t .if2 .taken
-
-slice-aggregate-text-2 : tie.Need-slice-aggregate-text-2
-slice-aggregate-text-2 c = search needs
-
-text-requires-2 : tie.Need-text-requires-2
-text-requires-2 c κs = search needs
 
 returns-2 : tie.Need-returns-2
 returns-2 c = search needs
@@ -48,10 +44,8 @@ load-case-spec =
     shared-slice-read-y
     u24-at-requires-2
     load-lawful-requires
+    run-requires
     slice-aggregate-text
     text-requires
-    run-requires
-    slice-aggregate-text-2
-    text-requires-2
     returns-2
     returns-3)

@@ -1,8 +1,10 @@
+-- `package_case` stages a package only where its number is neither 8 nor 9.
 use mathlib.Core.Path.{_∙_}
 use Rattle.load.proofs.StagingLaws.{number-placeable}
 use borrow.Author.Needs.{needs}
 use Rattle.command_cases.proofs.cases.package_case.Statement.{statement}
 use Rattle.command_cases.proofs.cases.package_case.Tie as tie
+use Rattle.wire.proofs.read.u24_at.Reads as u24-at-reads
 
 returns : tie.Need-returns
 returns c = search needs
@@ -25,17 +27,14 @@ part-p-end c = search needs
 judge-requires : tie.Need-judge-requires
 judge-requires c κs = search needs
 
-slice-aggregate-text : tie.Need-slice-aggregate-text
-slice-aggregate-text c = search needs
+slice-aggregate-labelled : tie.Need-slice-aggregate-labelled
+slice-aggregate-labelled c = search needs
 
-text-requires : tie.Need-text-requires
-text-requires c κs = search needs
+cast-labelled : tie.Need-cast-labelled
+cast-labelled c = search needs
 
-cast-number : tie.Need-cast-number
-cast-number c = search needs
-
-number-requires : tie.Need-number-requires
-number-requires c κs = search needs
+labelled-requires : tie.Need-labelled-requires
+labelled-requires c κs = search needs
 
 returns-2 : tie.Need-returns-2
 returns-2 c = search needs
@@ -45,7 +44,7 @@ returns-3 c = search needs
 
 place-requires : tie.Need-place-requires
 place-requires c κs =
-    let j = c .before .before .before .before .before in
+    let j = c .before .before .before .before in
     let e = j .judge .ensures in
     number-placeable _ (j .before .before .before .u24-at .result) (λ q. c .before .if2 .left (e ∙ q)) (λ q. c .if3 .left (e ∙ q))
 
@@ -63,10 +62,9 @@ package-case-spec =
     part-p-start
     part-p-end
     judge-requires
-    slice-aggregate-text
-    text-requires
-    cast-number
-    number-requires
+    slice-aggregate-labelled
+    cast-labelled
+    labelled-requires
     returns-2
     returns-3
     place-requires

@@ -1,3 +1,4 @@
+-- `decode` reads two digits for each byte, and stops where they end or the buffer is full.
 use native.Mathlib.Omega.{arith}
 use mathlib.Core.Path.{_≡_}
 use lib.ListN.{length, length-set}

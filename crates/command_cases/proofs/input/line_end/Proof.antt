@@ -1,3 +1,4 @@
+-- `line_end` finds the first line end from a place on, or the end of the text.
 use lib.ListN.{length}
 use Prim.Native.Nat.{_≤_, _-_}
 use borrow.Author.Needs.{needs}

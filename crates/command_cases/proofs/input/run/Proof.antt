@@ -1,3 +1,4 @@
+-- `run` takes line after line, and each ends behind where it began.
 use Prim.Native.Nat.{_-_}
 use lib.ListN.{length}
 use borrow.Author.Needs.{needs}

@@ -1,3 +1,4 @@
+-- `run_line` hands on no more bytes than it decoded.
 use mathlib.Core.Path.{sym}
 use lib.Seq.{length-take-le}
 use borrow.Author.Needs.{needs}

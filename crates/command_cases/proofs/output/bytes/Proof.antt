@@ -1,3 +1,4 @@
+-- `bytes` prints the bytes one after the other.
 use lib.ListN.{length}
 use Prim.Native.Nat.{_≤_, _-_}
 use borrow.Author.Needs.{needs}

@@ -1,3 +1,4 @@
+-- `digest` goes through the bytes and stays below its modulus.
 use lib.ListN.{length}
 use Prim.Native.Nat.{_≤_, _<_, _-_}
 use borrow.Author.Needs.{needs}

@@ -1,3 +1,4 @@
+-- `accepted` reads header and frame from their places.
 use borrow.Author.Needs.{needs}
 use Rattle.ground.specs.Ground.{accepted}
 use Rattle.ground.proofs.contents.accepted.Statement.{statement}
@@ -18,7 +19,8 @@ u16-at-requires c κs = search needs
 returns : tie.Need-returns
 unfolding accepted
 returns c =
-    simp (c .u16-at .ensures, c .before .u32-at .ensures, c .before .before .sequence .ensures, c .before .before .before .application .ensures)
+    let k = c .before .before in
+    simp (c .u16-at .ensures, c .before .u32-at .ensures, k .sequence .ensures, k .before .application .ensures)
 
 pub accepted-spec : {M : Type 1} → statement M
 accepted-spec =

@@ -1,3 +1,4 @@
+-- `beacon_packet` reads the codes, valid ones in an accepted packet, and leaves all else zero.
 use borrow.Author.Needs.{needs}
 use native.Mathlib.Omega.{arith}
 use Rattle.packet.proofs.Reading.{beacon-codes}

@@ -1,3 +1,4 @@
+-- `rate_packet` reads the codes, valid ones in an accepted packet, the settings and the table sum.
 use borrow.Author.Needs.{needs}
 use native.Mathlib.Omega.{arith}
 use Rattle.packet.proofs.Reading.{rate-codes}
@@ -22,7 +23,9 @@ accepted-requires c κs = search needs
 
 returns : tie.Need-returns
 unfolding contents
-returns c = simp (c .accepted .ensures, c .before .u24-at .ensures .0, c .before .before .settings .ensures, c .before .before .before .before .rates2 .ensures)
+returns c =
+    let k = c .before .before in
+    simp (c .accepted .ensures, c .before .u24-at .ensures .0, k .settings .ensures, k .before .before .rates2 .ensures)
 
 pub rate-packet-spec : {M : Type 1} → statement M
 rate-packet-spec =

@@ -1,3 +1,4 @@
+-- `refused` gives the number, and zeros.
 use borrow.Author.Needs.{needs}
 use Rattle.ground.specs.Ground.{refused}
 use Rattle.ground.proofs.contents.refused.Statement.{statement}

@@ -1,3 +1,4 @@
+-- `sample_packet` reads p from its byte, and leaves all else zero.
 use borrow.Author.Needs.{needs}
 use Rattle.ground.specs.Ground.{contents}
 use Rattle.ground.proofs.contents.sample_packet.Statement.{statement}

@@ -1,3 +1,4 @@
+-- `load_word` lends the word's bytes out of the reach, fewer than a word at its end, and packs them.
 use Prim.Native.Nat.{ℕ, _+_, _-_, _*_, min}
 use mathlib.Core.Path.{_≡_, sym, ap, _∙_}
 use mathlib.Core.List.{List, _++_}
@@ -6,7 +7,7 @@ use lib.ListN.{take, drop}
 use denote.Ref.{now}
 use Rattle.wire.specs.Bytes.{put, zeros}
 use Rattle.wire.specs.Pieces.{padded}
-use Rattle.load.proofs.ListLaws.{part-of-reach}
+use Rattle.wire.proofs.Lists.{part-of-reach}
 use borrow.Author.Needs.{needs}
 use Rattle.load.proofs.run.load_word.Statement.{statement}
 use Rattle.load.proofs.run.load_word.Tie as tie
@@ -52,10 +53,10 @@ returns c =
     let staged = now (s .staging) in
     let w = s .width in
     let f : ℕ = w * s .k in
-    let e : f + m .smaller .result - f ≡ min w (s .reach - f) = omega (arith, m .smaller .ensures) in
+    let e : f + m .smaller .result - f ≡ min w (s .n - f) = omega (arith, m .smaller .ensures) in
     q .put-packed .ensures
     ∙ ap (λ (b : List ℕ). put (now (s .tables)) (s .at + 3 * s .k) (zeros (3 - w) ++ padded w b))
-    (ap (λ (n : ℕ). take n (drop f staged)) e ∙ sym (part-of-reach staged w f (s .reach) (omega arith) (omega arith)))
+    (ap (λ (n : ℕ). take n (drop f staged)) e ∙ sym (part-of-reach staged w f (s .n) (omega arith) (omega arith)))
 
 pub load-word-spec : {M : Type 1} → statement M
 load-word-spec =

@@ -1,3 +1,4 @@
+-- `put_packed` writes the zeros before, the bytes and the zeros behind, which together are the packed word.
 use Prim.Native.Nat.{ℕ, _+_, _-_}
 use mathlib.Core.Path.{_≡_, ap, _∙_}
 use mathlib.Core.List.{List, _++_, append-assoc}
@@ -50,8 +51,9 @@ returns c =
     let front : List ℕ = zeros (3 - s .width) in
     let lf : length front ≡ 3 - s .width = length-replicate {A = ℕ} (3 - s .width) 0 in
     let lb : length (front ++ b) ≡ length front + length b = length-append front b in
+    let e = c1 .put-zeros .ensures ∙ ap (λ (m : ℕ). put xs (s .at) (zeros m)) k in
     then xs (s .at) (front ++ b) (zeros (s .width - length b)) (from + length b)
-    (then xs (s .at) front b from (c1 .put-zeros .ensures ∙ ap (λ (m : ℕ). put xs (s .at) (zeros m)) k) (c2 .put-bytes .ensures) (omega arith) (omega arith))
+    (then xs (s .at) front b from e (c2 .put-bytes .ensures) (omega arith) (omega arith))
     (c3 .put-zeros2 .ensures ∙ ap (λ (m : ℕ). put (c2 .put-bytes .last .0) (from + length b) (zeros m)) n)
     (omega arith)
     (omega arith)

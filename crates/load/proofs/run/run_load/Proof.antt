@@ -1,3 +1,4 @@
+-- `run_load` writes word after word of the reach, and what it has written is the packed words so far.
 use Rattle.tables.specs.Tables.{first}
 use Prim.Native.Nat.{ℕ, _≤_, _+_, _-_, _*_}
 use mathlib.Core.Path.{_≡_, refl, ap, _∙_}
@@ -50,8 +51,11 @@ load-word-requires c κs =
     let a = s .args in
     let q = lawful-is (a .a) (a .y) (a .reach) (s .pre .1) in
     let n : l .before .load-words .result ≡ loadWords (a .y) (a .reach) = l .before .load-words .ensures in
-    let h : w .word-width .result * l .loop .k ≡ wordWidth (a .y) * l .loop .k = ap (λ (v : ℕ). v * l .loop .k) (w .word-width .ensures .0) in
-    (omega arith, (omega arith, omega (arith, words-start (a .y) (a .reach) (l .loop .k) (omega arith)), omega (arith, lawful-reach (a .a) (a .y) (a .reach) (s .pre .1))))
+    let k = l .loop .k in
+    let h : w .word-width .result * k ≡ wordWidth (a .y) * k = ap (λ (v : ℕ). v * k) (w .word-width .ensures .0) in
+    let starts = words-start (a .y) (a .reach) k (omega arith) in
+    let staged = lawful-reach (a .a) (a .y) (a .reach) (s .pre .1) in
+    (omega arith, (omega arith, omega (arith, starts), omega (arith, staged)))
 
 add-k : tie.Need-add-k Inv-loop μ-loop
 add-k c = search needs
@@ -72,9 +76,11 @@ loop-again c =
     let at : ℕ = 3 * (a .a - first) in
     let n : l .before .load-words .result ≡ loadWords (a .y) (a .reach) = l .before .load-words .ensures in
     let q = lawful-is (a .a) (a .y) (a .reach) (s .pre .1) in
-    let lp : length (packedWords width bytes k) ≡ 3 * k = length-packed-words width bytes (omega arith) k in (
+    let done = packedWords width bytes k in
+    let lp : length done ≡ 3 * k = length-packed-words width bytes (omega arith) k in
+    let e = c .before .before .load-word .ensures in (
       omega arith,
-      rw add-one (then (now (a .tables)) at (packedWords width bytes k) (packedWord width bytes k) (at + 3 * k) (l .loop .inv .1) (c .before .before .load-word .ensures) (omega arith) (omega arith)),
+      rw add-one (then (now (a .tables)) at done (packedWord width bytes k) (at + 3 * k) (l .loop .inv .1) e (omega arith) (omega arith)),
       omega arith,
     )
 
@@ -89,9 +95,11 @@ returns c =
     let s = w .before .before .before in
     let a = s .args in
     let staged = now (a .staging) in
-    let n : l .loop .k ≡ loadWords (a .y) (length (take (a .reach) staged)) =
-    rw (length-take-le (a .reach) staged (omega (arith, lawful-reach (a .a) (a .y) (a .reach) (s .pre .1)))) (let e = l .before .load-words .ensures in omega arith) in
-    l .loop .inv .1 ∙ (λ i. put (now (a .tables)) (3 * (a .a - first)) (packedWords (w .word-width .ensures .0 i) (take (a .reach) staged) (n i)))
+    let bytes : List ℕ = take (a .reach) staged in
+    let lr = lawful-reach (a .a) (a .y) (a .reach) (s .pre .1) in
+    let lb : length bytes ≡ a .reach = length-take-le (a .reach) staged (omega arith) in
+    let n : l .loop .k ≡ loadWords (a .y) (length bytes) = rw lb (let e = l .before .load-words .ensures in omega arith) in
+    l .loop .inv .1 ∙ (λ i. put (now (a .tables)) (3 * (a .a - first)) (packedWords (w .word-width .ensures .0 i) bytes (n i)))
 
 pub run-load-spec : {M : Type 1} → statement M
 run-load-spec =

@@ -1,3 +1,4 @@
+-- `computed_sum` is the sum of the payload's bytes modulo 65,536.
 use Prim.Native.Nat.{ℕ, _%_}
 use mathlib.Core.Path.{ap, _∙_}
 use Rattle.wire.specs.Bytes.{total}

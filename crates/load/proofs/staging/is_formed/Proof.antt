@@ -1,3 +1,4 @@
+-- `is_formed` reads the count only of a package that has one, and compares it with the bytes that came.
 use borrow.Author.Tests.{le-leb, lt-leb}
 use Rattle.load.specs.Staging.{formed}
 use borrow.Author.Needs.{needs}

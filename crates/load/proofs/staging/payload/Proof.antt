@@ -1,4 +1,5 @@
-use Rattle.load.specs.Staging.{placedBytes, payload}
+-- `payload` lends what stands between the count and the sum.
+use Rattle.load.specs.Staging.{payloadBytes, payload}
 use Prim.Native.Nat.{ℕ, _-_}
 use mathlib.Core.Path.{_≡_, ap, _∙_}
 use native.Mathlib.Omega.{arith}
@@ -29,8 +30,9 @@ returns c =
     let s = c .before .before .before in
     let p = now (s .args .p) in
     let f = formed-is p (s .pre) in
-    let e : take (c .before .u16-at .result - 2) (drop 2 p) ≡ payload p = ap (λ (n : ℕ). take (n - 2) (drop 2 p)) (c .before .u16-at .ensures) in
-    let l : length (take (c .before .u16-at .result - 2) (drop 2 p)) ≡ placedBytes p = ap length e ∙ length-payload p (s .pre) in
+    let n = c .before .u16-at .result in
+    let e : take (n - 2) (drop 2 p) ≡ payload p = ap (λ (m : ℕ). take (m - 2) (drop 2 p)) (c .before .u16-at .ensures) in
+    let l : length (take (n - 2) (drop 2 p)) ≡ payloadBytes p = ap length e ∙ length-payload p (s .pre) in
     (e, l, omega arith)
 
 pub payload-spec : {M : Type 1} → statement M

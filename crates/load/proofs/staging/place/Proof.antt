@@ -1,3 +1,4 @@
+-- `place` puts the payload at the next address and moves both addresses past it.
 use Prim.Native.Nat.{ℕ, _+_, max}
 use Rattle.wire.specs.Bytes.{put}
 use mathlib.Core.Path.{ap, _∙_}
@@ -9,23 +10,31 @@ use borrow.Author.Needs.{needs}
 use Rattle.load.proofs.staging.place.Statement.{statement}
 use Rattle.load.proofs.staging.place.Tie as tie
 
+abbrev start : tie.After-put-bytes → tie.Start
+start q = q .before .before .before .before .before .before
+
+cast-put-bytes : tie.Need-cast-put-bytes
+cast-put-bytes c = search needs
+
 payload-requires : tie.Need-payload-requires
-payload-requires c κs = let s = c .before .before .before in placeable-formed (now (s .args .p)) (s .args .next) (s .pre .1)
+payload-requires c κs =
+    let s = c .before .before .before .before in
+    placeable-formed (now (s .args .p)) (s .args .a .next) (s .pre .1)
 
 put-bytes-requires : tie.Need-put-bytes-requires
 put-bytes-requires c κs =
-    let s = c .before .before .before .before in
-    omega (arith, placeable-fits (now (s .args .p)) (s .args .next) (s .pre .1))
+    let s = c .before .before .before .before .before in
+    omega (arith, placeable-fits (now (s .args .p)) (s .args .a .next) (s .pre .1))
 
-placed-requires : tie.Need-placed-requires
-placed-requires c κs =
-    let s = c .before .before .before .before .before .before .before in
-    placeable-formed (now (s .args .p)) (s .args .next) (s .pre .1)
+payload-bytes-requires : tie.Need-payload-bytes-requires
+payload-bytes-requires c κs =
+    let s = start (c .before .before) in
+    placeable-formed (now (s .args .p)) (s .args .a .next) (s .pre .1)
 
 add-end : tie.Need-add-end
 add-end c =
-    let s = c .before .before .before .before .before .before .before .before in
-    omega (arith, placeable-fits (now (s .args .p)) (s .args .next) (s .pre .1))
+    let s = start (c .before .before .before .before) in
+    omega (arith, placeable-fits (now (s .args .p)) (s .args .a .next) (s .pre .1))
 
 larger-requires : tie.Need-larger-requires
 larger-requires c κs = search needs
@@ -36,20 +45,22 @@ same-length c = search needs
 returns : tie.Need-returns
 unfolding stagingAfter
 returns c =
-    let q = c .before .before .before .before in
-    let s = q .before .before .before .before .before .args in
-    let e = c .before .placed .ensures .0 in (
-      q .put-bytes .ensures ∙ ap (put (now (s .staging)) (s .next)) (q .before .payload .ensures .0),
-      (λ i. record { next = s .next + e i; reach = (c .larger .ensures ∙ ap (λ (n : ℕ). max (s .reach) (s .next + n)) e) i }),
+    let b = c .before .before in
+    let q = b .before .before .before in
+    let s = start q .args in
+    let e = b .payload-bytes .ensures .0 in (
+      q .put-bytes .ensures ∙ ap (put (now (s .staging)) (s .a .next)) (q .before .payload .ensures .0),
+      (λ i. record { next = s .a .next + e i; reach = (c .larger .ensures ∙ ap (λ (n : ℕ). max (s .a .reach) (s .a .next + n)) e) i }),
     )
 
 pub place-spec : {M : Type 1} → statement M
 place-spec =
     tie.close
     (tie.spec
+    cast-put-bytes
     payload-requires
     put-bytes-requires
-    placed-requires
+    payload-bytes-requires
     add-end
     larger-requires
     same-length

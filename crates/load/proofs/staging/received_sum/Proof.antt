@@ -1,3 +1,4 @@
+-- `received_sum` reads the two bytes behind the payload of a well formed package.
 use mathlib.Core.Path.{ap, _∙_}
 use native.Mathlib.Omega.{arith}
 use denote.Ref.{now}

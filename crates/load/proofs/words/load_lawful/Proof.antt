@@ -1,3 +1,4 @@
+-- `load_lawful` tests the way to pack, the reach and both ends of the load, as the definition does.
 use Rattle.load.specs.Load.{loadLawful}
 use mathlib.Core.Path.{refl}
 use native.Mathlib.Omega.{arith}

@@ -1,3 +1,4 @@
+-- `load_words` divides by the width and rounds up.
 use Prim.Native.Nat.{ℕ, _+_, _-_, _/_}
 use mathlib.Core.Path.{ap}
 use borrow.Author.Needs.{needs}

@@ -1,3 +1,4 @@
+-- `word_width` names the width of each way to pack.
 use mathlib.Core.Path.{sym}
 use native.Mathlib.Omega.{arith}
 use Rattle.load.proofs.LoadLaws.{width-two}

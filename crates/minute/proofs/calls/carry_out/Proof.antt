@@ -1,22 +1,26 @@
+-- Each arm of `carry_out` answers as the definition does for its kind, and only a close changes the buffers.
 use borrow.Author.Tests.{ne-eqb}
-use Rattle.minute.specs.Calls.{carriedOut, tablesThen, slotsThen}
+use Rattle.minute.specs.Calls.{carriedOut}
 use borrow.Author.Needs.{needs}
 use Rattle.minute.proofs.calls.carry_out.Statement.{statement}
 use Rattle.minute.proofs.calls.carry_out.Tie as tie
 
 reading-requires : tie.Need-reading-requires
-reading-requires c κs = c .before .before .before .before .before .before .pre .1 (c .match .keys1)
+reading-requires c κs =
+    let s = c .before .before .before .before .before .before in
+    s .pre .1 (c .match .keys1)
 
 close-requires : tie.Need-close-requires
 close-requires c κs =
     let m = c .before .before .before .before in
-    m .before .before .before .before .before .before .pre .2 (m .match .keys2)
+    let s = m .before .before .before .before .before .before in
+    s .pre .2 (m .match .keys2)
 
 line-requires : tie.Need-line-requires
 line-requires c κs = search needs
 
 returns : tie.Need-returns
-unfolding carriedOut tablesThen slotsThen
+unfolding carriedOut
 returns c = let k = c .before .match .keys1 in (rw k (c .reading .ensures), (rw k, rw k))
 
 same-length : tie.Need-same-length
@@ -29,7 +33,7 @@ same-length-3 : tie.Need-same-length-3
 same-length-3 c = search needs
 
 returns-2 : tie.Need-returns-2
-unfolding carriedOut tablesThen slotsThen
+unfolding carriedOut
 returns-2 c =
     let x = c .before .before .before .before .before .before in
     let e = x .close .ensures in
@@ -37,12 +41,12 @@ returns-2 c =
     (rw k (e .0), (rw k (e .1 .0), rw k (e .1 .1)))
 
 returns-3 : tie.Need-returns-3
-unfolding carriedOut tablesThen slotsThen
+unfolding carriedOut
 returns-3 c =
     let r = c .before .match .rest in
     let n₂ = ne-eqb _ _ (r .0 .1) in
     let n₄ = ne-eqb _ _ (r .1) in
-    (rw (n₂, n₄) (c .line .ensures), (rw n₄, rw n₄))
+    (rw (n₂, n₄) (c .line .ensures), (rw (n₂, n₄), rw (n₂, n₄)))
 
 pub carry-out-spec : {M : Type 1} → statement M
 carry-out-spec =

@@ -1,4 +1,5 @@
-use mathlib.Core.Path.{ap}
+-- `close` hands on what the processor's close makes, but for the packets, which go to a buffer of its own.
+use mathlib.Core.Path.{sym, ap}
 use Rattle.processor.specs.declared.Answer.{Answer}
 use Rattle.processor.specs.declared.close.Closed.{Closed}
 use borrow.Author.Needs.{needs}
@@ -32,8 +33,10 @@ answer x = record { number = x .number; state = x .state }
 returns : tie.Need-returns
 unfolding answer
 returns c =
-    let e = c .before .before .before .before .before .before .before .before .before .before .before .close .ensures in
-    (ap answer (e .0), (e .1 .0, e .1 .1 .0))
+    let x = c .before .before .before .before .before .before .before .before .before .before .before in
+    let e = x .close .ensures in
+    let t = sym (x .before .before .before .before .u32-at .ensures) in
+    (rw t (ap answer (e .0)), (rw t (e .1 .0), rw t (e .1 .1 .0)))
 
 pub close-spec : {M : Type 1} → statement M
 close-spec =

@@ -1,3 +1,4 @@
+-- After each turn of `events` the records so far led from the first state and slots to those of now.
 use Prim.Native.Nat.{_≤_, _+_, _-_}
 use mathlib.Core.Path.{_≡_, refl, ap, _∙_}
 use mathlib.Core.Logic.{inl, inr, ⊎-elim}
@@ -22,8 +23,10 @@ abbrev μ-loop : tie.MeasureT-loop
 loop-holds : tie.Need-loop-holds Inv-loop μ-loop
 loop-holds c =
     let s = c .before .before .before .before in
-    let z : s .args .input .at - s .args .input .at ≡ 0 = omega arith in
-    (s .pre .0, refl, refl, omega arith, rw z (events-none (s .args .state) (now (s .args .tables)) (now (s .args .slots)) (waitingIn (s .args .input) (now (s .args .buffer)))))
+    let a = s .args in
+    let z : a .input .at - a .input .at ≡ 0 = omega arith in
+    let none = events-none (a .state) (now (a .tables)) (now (a .slots)) (waitingIn (a .input) (now (a .buffer))) in
+    (s .pre .0, refl, refl, omega arith, rw z none)
 
 sub-loop : tie.Need-sub-loop Inv-loop μ-loop
 sub-loop c = search needs
@@ -42,7 +45,8 @@ same-length-2 c = search needs
 
 returns : tie.Need-returns Inv-loop μ-loop
 returns c =
-    let v = c .before .before .before .before .loop .inv in
+    let l = c .before .before .before .before in
+    let v = l .loop .inv in
     let g = c .going-on .ensures in
     (search needs, (rw (g .0, g .1) (v .4), (rw (g .1, g .2) (inr (c .before .if1 .taken)), g .3)))
 
@@ -68,7 +72,9 @@ print-refusal-requires : tie.Need-print-refusal-requires Inv-loop μ-loop
 print-refusal-requires c κs = search needs
 
 add-from : tie.Need-add-from Inv-loop μ-loop
-add-from c = omega (arith, add-body-2 (c .before .before .before .before .before .before .before .before))
+add-from c =
+    let b = c .before .before .before .before .before .before .before .before in
+    omega (arith, add-body-2 b)
 
 loop-less : tie.Need-loop-less Inv-loop μ-loop
 loop-less c = search needs
@@ -78,7 +84,8 @@ loop-again c =
     let x = c .before .before .before .before .before .before .before .before in
     let l = x .before .before .before in
     let s = l .before .before .before .before .before in
-    let e = c .before .before .before .before .before .event in
+    let k₁ = c .before .before .before .before .before in
+    let e = k₁ .event in
     let v = l .loop .inv in
     let input = s .args .input in
     let b = now (s .args .buffer) in

@@ -1,3 +1,4 @@
+-- `line` hands the bytes before the first zero to the processor.
 use mathlib.Core.Path.{sym}
 use lib.Seq.{length-take-le}
 use borrow.Author.Needs.{needs}

@@ -1,3 +1,4 @@
+-- Before the place that `line_length` has come to stands no zero byte.
 use Prim.Native.Nat.{_≤_, _+_, _-_}
 use mathlib.Core.Path.{_≡_}
 use native.Mathlib.Omega.{arith}

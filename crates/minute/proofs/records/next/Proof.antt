@@ -1,3 +1,4 @@
+-- What `next` finds stands where the bytes waited before the fill, and has the length of its kind.
 use mathlib.Core.Path.{refl}
 use native.Mathlib.Omega.{arith}
 use denote.Ref.{now}
@@ -48,10 +49,10 @@ returns-3 c =
     let w = c .before .before in
     let n = w .before .before .before .body-bytes .ensures in
     let f = w .before .before .before .before .before .before .before .before .before in
-    let s = f .before .before .before in (
-      found-then (λ _. 1) (w .whole .result) (waitingIn (s .args .input) (now (s .args .buffer))) _ _ (f .fill .ensures .1) (w .whole .ensures .0),
-      body-long _ _ (w .whole .result) (n .1) (w .whole .ensures .1),
-    )
+    let a = f .before .before .before .args in
+    let e = w .whole .ensures in
+    let r = w .whole .result in
+    (found-then r (waitingIn (a .input) (now (a .buffer))) _ _ (f .fill .ensures .1) (e .0), body-long _ _ r (n .1) (e .1))
 
 pub next-spec : {M : Type 1} → statement M
 next-spec =

@@ -1,3 +1,4 @@
+-- `body_good` asks each kind's own test, and none passes for no kind.
 use borrow.Author.Needs.{needs}
 use Rattle.packet.specs.Read.{bodyGood}
 use Rattle.packet.proofs.faults.body_good.Statement.{statement}

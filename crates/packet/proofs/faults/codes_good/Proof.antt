@@ -1,3 +1,4 @@
+-- `codes_good` has tested, after i turns, the first i codes.
 use borrow.Author.Needs.{needs}
 use Prim.Native.Nat.{_≤_, _-_}
 use mathlib.Core.Path.{_≡_, ap, _∙_}

@@ -1,3 +1,4 @@
+-- `fields_good` reads the three header words, the zero and the kind, and asks of them what the definition asks.
 use borrow.Author.Needs.{needs}
 use mathlib.Core.Path.{ap, _∙_}
 use Rattle.packet.specs.Read.{isKind, kindOf, fieldsGood}

@@ -1,3 +1,4 @@
+-- `header_good` looks at the fields only where there are 272 bytes, and otherwise the definition is false too.
 use borrow.Author.Needs.{needs}
 use borrow.Author.Tests.{eq-eqb, ne-eqb}
 use Rattle.packet.specs.Read.{headerGood}

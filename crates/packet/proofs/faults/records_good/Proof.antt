@@ -1,8 +1,10 @@
+-- `records_good` has tested, after i turns, the first i records.
 use borrow.Author.Needs.{needs}
 use Prim.Native.Nat.{_≤_, _-_}
 use mathlib.Core.Path.{_≡_, ap, _∙_}
 use native.Mathlib.Omega.{arith}
-use Rattle.packet.specs.Read.{recordGood, recordsGood}
+use Rattle.sample_record.specs.Record.{recordGood}
+use Rattle.packet.specs.Read.{recordsGood}
 use Rattle.wire.proofs.Pieces.{each-start, each-turn, each-end}
 use Rattle.packet.proofs.faults.records_good.Statement.{statement}
 use Rattle.packet.proofs.faults.records_good.Tie as tie

@@ -1,3 +1,4 @@
+-- `sum_good` compares the last byte with the byte sum of the part before it.
 use borrow.Author.Needs.{needs}
 use Rattle.packet.specs.Read.{sumGood}
 use Rattle.packet.proofs.faults.sum_good.Statement.{statement}

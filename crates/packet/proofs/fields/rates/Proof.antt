@@ -1,3 +1,4 @@
+-- `rates` has filled, after i turns, the first i counts, and each code it reads is valid.
 use borrow.Author.Needs.{needs}
 use Rattle.packet.specs.Rate.{leastCount, codeValid}
 use Rattle.wire.proofs.Pieces.{table-none, table-turn, table-end, each-at}
@@ -52,7 +53,8 @@ loop-again c =
     let l = c .before .before .before in
     let i = l .loop .i in (
       omega arith,
-      table-turn _ (l .loop .counts) i (omega arith) (l .loop .inv .1) (c .least-count .ensures ∙ ap leastCount (c .before .u16-at .ensures)),
+      table-turn _ (l .loop .counts) i (omega arith) (l .loop .inv .1)
+          (c .least-count .ensures ∙ ap leastCount (c .before .u16-at .ensures)),
       simp length-set (l .loop .inv .2),
     )
 

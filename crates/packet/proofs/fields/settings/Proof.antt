@@ -1,3 +1,4 @@
+-- `settings` reads each field from its place, and each flag is a bit of one byte.
 use borrow.Author.Needs.{needs}
 use Rattle.packet.specs.Read.{settingsOf}
 use Rattle.packet.proofs.fields.settings.Statement.{statement}
@@ -26,7 +27,11 @@ shared-slice-read-t4 c = search needs
 
 returns : tie.Need-returns
 unfolding settingsOf
-returns c = simp (c .before .is-set4 .ensures, c .before .before .is-set3 .ensures, c .before .before .before .is-set2 .ensures, c .before .before .before .before .is-set .ensures, c .before .before .before .before .before .u16-at .ensures)
+returns c =
+    let i = c .before in
+    let k = i .before .before in
+    let l = k .before .before in
+    simp (i .is-set4 .ensures, i .before .is-set3 .ensures, k .is-set2 .ensures, k .before .is-set .ensures, l .u16-at .ensures)
 
 pub settings-spec : {M : Type 1} → statement M
 settings-spec =

@@ -1,3 +1,4 @@
+-- `kind_of` goes through the application numbers in the definition's order.
 use borrow.Author.Needs.{needs}
 use borrow.Author.Tests.{eq-eqb, ne-eqb}
 use Rattle.packet.specs.Read.{kindOf}

@@ -1,8 +1,9 @@
+-- `encode` takes the shift from the leading zeros, which is the least one that leaves a quotient below 4,096.
 use borrow.Author.Needs.{needs}
 use mathlib.Core.Path.{sym}
 use native.Mathlib.Omega.{arith}
 use lib.Count.{leadingZeros}
-use Rattle.packet.proofs.Codes.{code-low, Bits, bits}
+use Rattle.packet.proofs.Codes.{code-low, code-bits, Bits, bits}
 use Rattle.packet.proofs.rate.encode.Statement.{statement}
 use Rattle.packet.proofs.rate.encode.Tie as tie
 
@@ -31,7 +32,7 @@ cast-result-2 : tie.Need-cast-result-2
 cast-result-2 c = omega (arith, from-4096 c)
 
 returns-2 : tie.Need-returns-2
-returns-2 c = sym (from-4096 c .code)
+returns-2 c = sym (code-bits _ _ (from-4096 c))
 
 pub encode-spec : {M : Type 1} → statement M
 encode-spec =

@@ -1,3 +1,4 @@
+-- `least_count` shifts a quotient below 4,096 by at most 12, which 32 bits hold.
 use borrow.Author.Needs.{needs}
 use native.Mathlib.Omega.{arith}
 use native.Mathlib.Nat.{mod-eq-of-lt}

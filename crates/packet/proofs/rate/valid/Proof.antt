@@ -1,3 +1,4 @@
+-- `valid` is the definition of a valid code, written in the code's words.
 use mathlib.Core.Path.{refl}
 use Rattle.packet.specs.Rate.{codeValid}
 use Rattle.packet.proofs.rate.valid.Statement.{statement}

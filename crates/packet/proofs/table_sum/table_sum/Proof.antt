@@ -1,3 +1,4 @@
+-- `table_sum` has added, after i turns, the first i words, and its sum stays below 2^24 times as many.
 use borrow.Author.Needs.{needs}
 use Prim.Native.Nat.{ℕ, _≤_, _-_, _+_, _*_, _%_}
 use mathlib.Core.Path.{_≡_, refl, ap, _∙_}
@@ -53,7 +54,9 @@ unfolding tableSum
 returns c =
     let l = c .before in
     let e : l .loop .i ≡ tableWords = omega arith in
-    (ap (λ (x : ℕ). x % 16777216) (l .loop .inv .2 ∙ ap (λ (n : ℕ). total (table n (λ k. wordAt (now (l .before .before .args .tables)) (first + k)))) e), omega arith)
+    let tables = now (l .before .before .args .tables) in
+    let summed = l .loop .inv .2 ∙ ap (λ (n : ℕ). total (table n (λ k. wordAt tables (first + k)))) e in
+    (ap (λ (x : ℕ). x % 16777216) summed, omega arith)
 
 pub table-sum-spec : {M : Type 1} → statement M
 table-sum-spec =

@@ -1,5 +1,6 @@
+-- `write_beacon` puts codes and then zeros from byte 11 to the frame: the body of the beacon packet.
 use borrow.Author.Needs.{needs}
-use Prim.Native.Nat.{ℕ}
+use Prim.Native.Nat.{ℕ, _*_}
 use mathlib.Core.Path.{_≡_}
 use mathlib.Core.List.{List, _++_}
 use native.Mathlib.Omega.{arith}
@@ -7,8 +8,9 @@ use lib.ListN.{length}
 use denote.Ref.{now}
 use Rattle.wire.specs.Bytes.{zeros}
 use Rattle.wire.proofs.Bytes.{then}
+use Rattle.packet.specs.Layout.{bodyAt, codeBytes, beaconCount, beaconEnd, beaconUnused}
 use Rattle.packet.specs.Packet.{codes, beaconPacket}
-use Rattle.packet.proofs.Written.{length-codes, length-beacon-body, written}
+use Rattle.packet.proofs.Written.{length-codes, length-beacon-body, packet-written}
 use Rattle.packet.proofs.write.write_beacon.Statement.{statement}
 use Rattle.packet.proofs.write.write_beacon.Tie as tie
 
@@ -21,8 +23,11 @@ write-codes-requires c κs = search needs
 put-zeros-requires : tie.Need-put-zeros-requires
 put-zeros-requires c κs = search needs
 
-finish-requires : tie.Need-finish-requires
-finish-requires c κs = search needs
+write-trailer-requires : tie.Need-write-trailer-requires
+write-trailer-requires c κs = search needs
+
+write-sum-requires : tie.Need-write-sum-requires
+write-sum-requires c κs = search needs
 
 same-length : tie.Need-same-length
 same-length c = search needs
@@ -30,18 +35,21 @@ same-length c = search needs
 returns : tie.Need-returns
 unfolding beaconPacket
 returns c =
-    let c4 = c .before .before in
+    let c5 = c .before .before in
+    let c4 = c5 .before .before .before .before in
     let c3 = c4 .before .before .before .before in
     let c2 = c3 .before .before .before .before in
     let c1 = c2 .before .before .before .before in
     let s = c1 .before .before .before .before in
     let x = c1 .write-header .last .0 in
-    let B : List ℕ = codes (now (s .args .beacons)) in
-    let lb : length B ≡ 24 = omega (arith, length-codes (now (s .args .beacons)), s .pre .0 .1) in
-    written (now (s .args .part)) _ _ _ _ (B ++ zeros 232) (s .pre .0 .0) (length-beacon-body (now (s .args .beacons)) (s .pre .0 .1))
+    let beacons = now (s .args .beacons) in
+    let B : List ℕ = codes beacons in
+    let lb : length B ≡ codeBytes * beaconCount = omega (arith, length-codes beacons, s .pre .0 .1) in
+    packet-written (now (s .args .part)) _ (s .args .stamp) (B ++ zeros beaconUnused) (s .pre .0 .0)
+    (length-beacon-body beacons (s .pre .0 .1))
     (c1 .write-header .ensures)
-    (then x 11 B (zeros 232) 35 (c2 .write-codes .ensures) (c3 .put-zeros .ensures) (omega arith) (omega arith))
-    (c4 .finish .ensures)
+    (then x bodyAt B (zeros beaconUnused) beaconEnd (c2 .write-codes .ensures) (c3 .put-zeros .ensures) (omega arith) (omega arith))
+    (c4 .write-trailer .ensures) (c5 .write-sum .ensures)
 
 pub write-beacon-spec : {M : Type 1} → statement M
 write-beacon-spec =
@@ -50,6 +58,7 @@ write-beacon-spec =
     write-header-requires
     write-codes-requires
     put-zeros-requires
-    finish-requires
+    write-trailer-requires
+    write-sum-requires
     same-length
     returns)

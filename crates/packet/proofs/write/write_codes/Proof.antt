@@ -1,3 +1,4 @@
+-- `write_codes` has put, after i turns, the codes of the first i counts one behind the other.
 use borrow.Author.Needs.{needs}
 use Prim.Native.Nat.{ℕ, _≤_, _-_, _+_, _*_}
 use mathlib.Core.Path.{_≡_, refl, sym, ap, _∙_}
@@ -37,7 +38,7 @@ shared-slice-read-encode : tie.Need-shared-slice-read-encode Inv-loop μ-loop
 shared-slice-read-encode c = search needs
 
 encode-requires : tie.Need-encode-requires Inv-loop μ-loop
-encode-requires c κs = c .before .before .before .before .before .before .pre .1 (c .before .before .before .loop .i)
+encode-requires c κs = let l = c .before .before .before in l .before .before .before .pre .1 (l .loop .i)
 
 put-u16-requires : tie.Need-put-u16-requires Inv-loop μ-loop
 put-u16-requires c κs = search needs
@@ -58,7 +59,8 @@ loop-again c =
     let lc : length (codes (take i ns)) ≡ 2 * i = length-codes-take ns i (omega arith) in
     let e = c .before .before .before .encode .ensures in (
       omega arith,
-      then xs (a .at) (codes (take i ns)) (be16 _) (a .at + 2 * i) (l .loop .inv .1) (c .before .before .put-u16 .ensures) (omega arith) (omega arith)
+      then xs (a .at) (codes (take i ns)) (be16 _) (a .at + 2 * i) (l .loop .inv .1) (c .before .before .put-u16 .ensures)
+          (omega arith) (omega arith)
           ∙ ap (λ (n : ℕ). put xs (a .at) (codes (take i ns) ++ be16 n)) e
           ∙ ap (put xs (a .at)) (sym (codes-take ns i (omega arith))),
       omega arith,

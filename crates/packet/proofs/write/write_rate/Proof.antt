@@ -1,13 +1,15 @@
+-- `write_rate` puts codes, settings and table sum in a row from byte 11 on: the body of the rate packet.
 use borrow.Author.Needs.{needs}
-use Prim.Native.Nat.{ℕ}
+use Prim.Native.Nat.{ℕ, _*_}
 use mathlib.Core.Path.{_≡_}
 use mathlib.Core.List.{List, _++_}
 use native.Mathlib.Omega.{arith}
 use lib.ListN.{length, length-append}
 use denote.Ref.{now}
 use Rattle.wire.proofs.Bytes.{then}
+use Rattle.packet.specs.Layout.{bodyAt, codeBytes, totalCount, rateCount, boxesAt, gapAt}
 use Rattle.packet.specs.Packet.{codes, settingsBytes, ratePacket}
-use Rattle.packet.proofs.Written.{length-codes, length-rate-body, written}
+use Rattle.packet.proofs.Written.{length-codes, length-rate-body, packet-written}
 use Rattle.packet.proofs.write.write_rate.Statement.{statement}
 use Rattle.packet.proofs.write.write_rate.Tie as tie
 
@@ -23,8 +25,11 @@ write-codes-requires-2 c κs = search needs
 write-settings-requires : tie.Need-write-settings-requires
 write-settings-requires c κs = search needs
 
-finish-requires : tie.Need-finish-requires
-finish-requires c κs = search needs
+write-trailer-requires : tie.Need-write-trailer-requires
+write-trailer-requires c κs = search needs
+
+write-sum-requires : tie.Need-write-sum-requires
+write-sum-requires c κs = search needs
 
 same-length : tie.Need-same-length
 same-length c = search needs
@@ -32,25 +37,29 @@ same-length c = search needs
 returns : tie.Need-returns
 unfolding ratePacket
 returns c =
-    let c5 = c .before .before in
+    let c6 = c .before .before in
+    let c5 = c6 .before .before .before .before in
     let c4 = c5 .before .before .before .before in
     let c3 = c4 .before .before .before .before in
     let c2 = c3 .before .before .before .before in
     let c1 = c2 .before .before .before .before in
     let s = c1 .before .before .before .before .before in
     let x = c1 .write-header .last .0 in
-    let T : List ℕ = codes (now (s .args .totals)) in
-    let B : List ℕ = codes (now (s .args .boxes)) in
+    let totals = now (s .args .totals) in
+    let boxes = now (s .args .boxes) in
+    let T : List ℕ = codes totals in
+    let B : List ℕ = codes boxes in
     let S : List ℕ = settingsBytes (s .args .settings) (s .args .sum) in
-    let lt : length T ≡ 16 = omega (arith, length-codes (now (s .args .totals)), s .pre .1 .0 .0) in
-    let lb : length B ≡ 232 = omega (arith, length-codes (now (s .args .boxes)), s .pre .1 .0 .1) in
-    let l : length (T ++ B) ≡ 248 = omega (arith, length-append T B) in
-    written (now (s .args .part)) _ _ _ _ (T ++ B ++ S) (s .pre .0)
-    (length-rate-body (now (s .args .totals)) (now (s .args .boxes)) (s .args .settings) (s .args .sum) (s .pre .1 .0 .0) (s .pre .1 .0 .1))
+    let h = s .pre .1 .0 in
+    let lt : length T ≡ codeBytes * totalCount = omega (arith, length-codes totals, h .0) in
+    let l : length (T ++ B) ≡ codeBytes * rateCount = omega (arith, length-append T B, length-codes boxes, h .1) in
+    packet-written (now (s .args .part)) _ (s .args .stamp) (T ++ B ++ S) (s .pre .0)
+    (length-rate-body totals boxes (s .args .settings) (s .args .sum) (h .0) (h .1))
     (c1 .write-header .ensures)
-    (then x 11 (T ++ B) S 259 (then x 11 T B 27 (c2 .write-codes .ensures) (c3 .write-codes2 .ensures) (omega arith) (omega arith))
+    (then x bodyAt (T ++ B) S gapAt
+    (then x bodyAt T B boxesAt (c2 .write-codes .ensures) (c3 .write-codes2 .ensures) (omega arith) (omega arith))
     (c4 .write-settings .ensures) (omega arith) (omega arith))
-    (c5 .finish .ensures)
+    (c5 .write-trailer .ensures) (c6 .write-sum .ensures)
 
 pub write-rate-spec : {M : Type 1} → statement M
 write-rate-spec =
@@ -60,6 +69,7 @@ write-rate-spec =
     write-codes-requires
     write-codes-requires-2
     write-settings-requires
-    finish-requires
+    write-trailer-requires
+    write-sum-requires
     same-length
     returns)

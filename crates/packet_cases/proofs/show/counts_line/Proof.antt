@@ -1,3 +1,4 @@
+-- `counts_line` reads each count inside the slice, and ends.
 use borrow.Author.Needs.{needs}
 use Prim.Native.Nat.{_≤_, _-_}
 use lib.ListN.{length}
@@ -13,14 +14,14 @@ abbrev μ-loop : tie.MeasureT-loop
 loop-holds : tie.Need-loop-holds Inv-loop μ-loop
 loop-holds c = search needs
 
-mul-wide-32 : tie.Need-mul-wide-32 Inv-loop μ-loop
-mul-wide-32 c = search needs
+mul-wide32 : tie.Need-mul-wide32 Inv-loop μ-loop
+mul-wide32 c = search needs
 
-shared-slice-read-wide-32 : tie.Need-shared-slice-read-wide-32 Inv-loop μ-loop
-shared-slice-read-wide-32 c = search needs
+shared-slice-read-wide32 : tie.Need-shared-slice-read-wide32 Inv-loop μ-loop
+shared-slice-read-wide32 c = search needs
 
-wide-32-requires : tie.Need-wide-32-requires Inv-loop μ-loop
-wide-32-requires c κs = search needs
+wide32-requires : tie.Need-wide32-requires Inv-loop μ-loop
+wide32-requires c κs = search needs
 
 word-requires : tie.Need-word-requires Inv-loop μ-loop
 word-requires c κs = search needs
@@ -47,9 +48,9 @@ counts-line-spec =
     Inv-loop
     μ-loop
     loop-holds
-    mul-wide-32
-    shared-slice-read-wide-32
-    wide-32-requires
+    mul-wide32
+    shared-slice-read-wide32
+    wide32-requires
     word-requires
     add-i
     loop-less

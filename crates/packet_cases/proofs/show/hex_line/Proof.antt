@@ -1,3 +1,4 @@
+-- `hex_line` reads each byte inside the slice, and ends.
 use borrow.Author.Needs.{needs}
 use Prim.Native.Nat.{_≤_, _-_}
 use lib.ListN.{length}
@@ -13,11 +14,14 @@ abbrev μ-loop : tie.MeasureT-loop
 loop-holds : tie.Need-loop-holds Inv-loop μ-loop
 loop-holds c = search needs
 
-shared-slice-read-wide : tie.Need-shared-slice-read-wide Inv-loop μ-loop
-shared-slice-read-wide c = search needs
+shared-slice-read-wide8 : tie.Need-shared-slice-read-wide8 Inv-loop μ-loop
+shared-slice-read-wide8 c = search needs
 
-wide-requires : tie.Need-wide-requires Inv-loop μ-loop
-wide-requires c κs = search needs
+wide8-requires : tie.Need-wide8-requires Inv-loop μ-loop
+wide8-requires c κs = search needs
+
+cast-print-hex : tie.Need-cast-print-hex Inv-loop μ-loop
+cast-print-hex c = search needs
 
 print-hex-requires : tie.Need-print-hex-requires Inv-loop μ-loop
 print-hex-requires c κs = search needs
@@ -44,8 +48,9 @@ hex-line-spec =
     Inv-loop
     μ-loop
     loop-holds
-    shared-slice-read-wide
-    wide-requires
+    shared-slice-read-wide8
+    wide8-requires
+    cast-print-hex
     print-hex-requires
     add-i
     loop-less

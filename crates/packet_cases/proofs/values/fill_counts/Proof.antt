@@ -1,3 +1,4 @@
+-- `fill_counts` writes inside the slice, and every count that it writes is below 2^24.
 use borrow.Author.Needs.{needs}
 use lib.Pow.{shr-le}
 use Rattle.packet_cases.proofs.Laws.{set-below}
@@ -11,7 +12,8 @@ use Rattle.packet_cases.proofs.values.fill_counts.Statement.{statement}
 use Rattle.packet_cases.proofs.values.fill_counts.Tie as tie
 
 abbrev Inv-loop : tie.InvT-loop
-Inv-loop counts₀ seed x₀ i₀ counts x i = (i ≤ length counts₀) × (x < countLimit) × EachBelow countLimit counts × (length counts ≡ length counts₀)
+Inv-loop counts₀ seed x₀ i₀ counts x i =
+    (i ≤ length counts₀) × (x < countLimit) × EachBelow countLimit counts × (length counts ≡ length counts₀)
 
 abbrev μ-loop : tie.MeasureT-loop
 μ-loop counts₀ seed x₀ i₀ counts x i = length counts₀ - i

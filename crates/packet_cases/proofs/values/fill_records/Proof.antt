@@ -1,3 +1,4 @@
+-- `fill_records` writes inside the slice, and its number stays below 2^24.
 use borrow.Author.Needs.{needs}
 use Prim.Native.Nat.{_≤_, _<_, _-_}
 use mathlib.Core.Path.{_≡_}

@@ -1,25 +1,37 @@
+-- A close whose number is 0 writes the packets, runs the waiting commands and clears; any other changes nothing.
 use mathlib.Core.Path.{sym, ap, _∙_}
-use native.Mathlib.Omega.{arith}
 use borrow.Author.Tests.{ne-eqb}
-use lib.ListN.{length}
 use denote.Ref.{now}
+use lib.ListN.{length}
 use Rattle.wire.specs.Bytes.{zeros}
-use Rattle.state.proofs.LimitLaws.{within}
-use Rattle.processor.specs.Close.{closeAnswer, closeTables, closeSlots, closeOut}
-use Rattle.processor.proofs.CloseLaws.{Closes, close-closes}
+use Rattle.state.proofs.LimitLaws.{state-limits}
+use Rattle.processor.specs.Close.{closeDone}
+use Rattle.processor.proofs.CallLaws.{Closes, close-closes}
 use borrow.Author.Needs.{needs}
 use Rattle.processor.proofs.close.close.Statement.{statement}
 use Rattle.processor.proofs.close.close.Tie as tie
 
 -- what is known of a close that is carried out
+abbrev entry : tie.After-close-number → tie.Start
+entry n = let k = n .before .before .before in k .before .before .before
+
 closes-is : (l : tie.Else1)
-    → Closes (l .before .before .before .before .before .before .before .args .state) (length (now (l .before .before .before .before .before .before .before .args .tables)))
-    (length (now (l .before .before .before .before .before .before .before .args .staging))) (now (l .before .before .before .before .before .before .before .args .slots))
-    (length (now (l .before .before .before .before .before .before .before .args .out)))
+    → Closes (entry (l .before) .args .state) (length (now (entry (l .before) .args .tables))) (length (now (entry (l .before) .args .staging)))
+    (now (entry (l .before) .args .slots)) (length (now (entry (l .before) .args .out)))
 closes-is l =
     let n = l .before in
-    let s = n .before .before .before .before .before .before in
+    let s = entry n in
     close-closes (s .args .state) _ _ (now (s .args .slots)) _ (sym (n .close-number .ensures) ∙ l .if1 .left)
+
+-- the places before: the test, the filled slots, the packets, the loads
+abbrev counted : tie.After-write-packets → tie.After-filled
+counted p = let k = p .before .before in k .before .before
+
+abbrev written : tie.After-run-loads → tie.After-write-packets
+written r = let k = r .before .before in k .before .before
+
+abbrev loaded : tie.After-clear → tie.After-run-loads
+loaded r = let k = r .before .before in k .before .before
 
 close-number-requires : tie.Need-close-number-requires
 close-number-requires c κs = search needs
@@ -31,36 +43,36 @@ same-length : tie.Need-same-length
 same-length c = search needs
 
 returns : tie.Need-returns
-unfolding closeAnswer closeTables closeSlots closeOut
+unfolding closeDone
 returns c =
     let n = ne-eqb _ _ (c .before .if1 .taken) in
     let e = sym (c .before .before .close-number .ensures) in
-    let r = c .refused .ensures in
-    (simp (e, n) (λ i. record { number = r .0 i; state = r .1 i; taken = r .2 i; counts = r .3 i; filled = r .4 i }), (simp (e, n), (simp (e, n), simp (e, n))))
+    let r = c .refused .ensures in (
+      simp (e, n) (λ i. record { number = r .0 i; state = r .1 i; taken = r .2 i; counts = r .3 i; filled = r .4 i }),
+      (simp (e, n), (simp (e, n), simp (e, n))),
+    )
 
 filled-requires : tie.Need-filled-requires
 filled-requires c κs = search needs
 
 write-packets-requires : tie.Need-write-packets-requires
 write-packets-requires c κs =
-    let k = closes-is (c .before .before .before .before .before) in
-    ((k .tables-are, k .slots-are), (k .out-is, k .limits))
+    let l = (let f = c .before .before .before in f .before .before) in
+    let k = closes-is l in
+    ((k .tables-are, k .slots-are), (k .out-is, state-limits (entry (l .before) .args .state) (k .limits) .interval))
 
 run-loads-requires : tie.Need-run-loads-requires
 run-loads-requires c κs =
-    let l = c .before .before .before .before .before .before .before .before .before .before in
+    let p = c .before .before .before in
+    let l = counted p .before .before in
     let k = closes-is l in
-    let w = within (l .before .before .before .before .before .before .before .args .state) (k .limits) in
-    ((k .tables-are, k .staging-is), (omega (arith, w .waiters-most, w .accepted-most), w .given))
+    ((k .tables-are, k .staging-is), state-limits (entry (l .before) .args .state) (k .limits) .orders)
 
 clear-requires : tie.Need-clear-requires
 clear-requires c κs = search needs
 
 closed-state-requires : tie.Need-closed-state-requires
-closed-state-requires c κs =
-    let l = c .before .before .before .before .before .before .before .before .before .before .before .before .before .before .before .before .before .before in
-    let w = within (l .before .before .before .before .before .before .before .args .state) (closes-is l .limits) in
-    omega (arith, w .waiters-most, w .accepted-most)
+closed-state-requires c κs = search needs
 
 same-length-2 : tie.Need-same-length-2
 same-length-2 c = search needs
@@ -72,12 +84,12 @@ same-length-4 : tie.Need-same-length-4
 same-length-4 c = search needs
 
 returns-2 : tie.Need-returns-2
-unfolding closeAnswer closeTables closeSlots closeOut
+unfolding closeDone
 returns-2 c =
-    let cl = c .before .before .before .before in
-    let rl = cl .before .before .before .before in
-    let wp = rl .before .before .before .before .before in
-    let fl = wp .before .before .before .before in
+    let cl = (let k = c .before .before in k .before .before) in
+    let rl = loaded cl in
+    let wp = written rl in
+    let fl = counted wp in
     let l = fl .before .before in
     let e = sym (l .before .close-number .ensures) ∙ l .if1 .left in (
       simp (e, c .closed-state .ensures, fl .filled .ensures),

@@ -1,3 +1,4 @@
+-- `closed_state` is a fresh state but for the frame, the settings and the staging addresses.
 use Rattle.state.specs.State.{freshState}
 use Rattle.processor.specs.Close.{stateClosed}
 use borrow.Author.Needs.{needs}
@@ -7,8 +8,8 @@ use Rattle.processor.proofs.close.closed_state.Tie as tie
 run-settings-requires : tie.Need-run-settings-requires
 run-settings-requires c κs = search needs
 
-load-waits-requires : tie.Need-load-waits-requires
-load-waits-requires c κs = search needs
+run-addresses-requires : tie.Need-run-addresses-requires
+run-addresses-requires c κs = search needs
 
 fresh-requires : tie.Need-fresh-requires
 fresh-requires c κs = search needs
@@ -16,37 +17,19 @@ fresh-requires c κs = search needs
 next-frame-requires : tie.Need-next-frame-requires
 next-frame-requires c κs = search needs
 
-address-after-requires : tie.Need-address-after-requires
-address-after-requires c κs = search needs
-
-address-after-requires-2 : tie.Need-address-after-requires-2
-address-after-requires-2 c κs = search needs
-
 returns : tie.Need-returns
 unfolding stateClosed freshState
 returns c =
-    let a = c .before in
-    let n = a .before in
-    let f = n .before in
-    let l = f .before in
-    let s = l .before in
-    simp (
-      f .fresh .ensures,
-      n .next-frame .ensures,
-      a .address-after .ensures,
-      c .address-after2 .ensures,
-      l .load-waits .ensures,
-      s .run-settings .ensures,
-    )
+    let f = c .before in
+    let a = f .before in
+    simp (c .next-frame .ensures, f .fresh .ensures, a .run-addresses .ensures, a .before .run-settings .ensures)
 
 pub closed-state-spec : {M : Type 1} → statement M
 closed-state-spec =
     tie.close
     (tie.spec
     run-settings-requires
-    load-waits-requires
+    run-addresses-requires
     fresh-requires
     next-frame-requires
-    address-after-requires
-    address-after-requires-2
     returns)

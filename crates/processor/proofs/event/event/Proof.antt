@@ -1,7 +1,8 @@
+-- An event whose number is 0 is taken, and any other changes nothing.
 use mathlib.Core.Path.{sym, _∙_}
 use borrow.Author.Tests.{ne-eqb}
-use Rattle.processor.specs.Event.{eventAnswer, eventSlots}
-use Rattle.processor.proofs.EventLaws.{event-takes}
+use Rattle.processor.specs.Event.{eventDone}
+use Rattle.processor.proofs.CallLaws.{event-takes}
 use borrow.Author.Needs.{needs}
 use Rattle.processor.proofs.event.event.Statement.{statement}
 use Rattle.processor.proofs.event.event.Tie as tie
@@ -10,11 +11,11 @@ event-number-requires : tie.Need-event-number-requires
 event-number-requires c κs = search needs
 
 returns : tie.Need-returns
-unfolding eventAnswer eventSlots
+unfolding eventDone
 returns c =
     let n = ne-eqb _ _ (c .if1 .taken) in
-    let e = c .before .event-number .ensures in
-    (simp (sym e, n), simp (sym e, n))
+    let e = sym (c .before .event-number .ensures) in
+    (simp (e, n), simp (e, n))
 
 take-event-requires : tie.Need-take-event-requires
 take-event-requires c κs =
@@ -27,7 +28,7 @@ same-length : tie.Need-same-length
 same-length c = search needs
 
 returns-2 : tie.Need-returns-2
-unfolding eventAnswer eventSlots
+unfolding eventDone
 returns-2 c =
     let t = c .before .before in
     let l = t .before .before in
@@ -35,5 +36,4 @@ returns-2 c =
     (simp (e, t .take-event .ensures .0), simp (e, t .take-event .ensures .1))
 
 pub event-spec : {M : Type 1} → statement M
-event-spec =
-    tie.close (tie.spec event-number-requires returns take-event-requires same-length returns-2)
+event-spec = tie.close (tie.spec event-number-requires returns take-event-requires same-length returns-2)

@@ -1,7 +1,7 @@
+-- The record of an eligible event is placed, and no other changes the slots.
 use mathlib.Core.Path.{sym, _∙_}
 use native.Mathlib.Omega.{arith}
 use borrow.Author.Tests.{not-true, not-false}
-use Rattle.state.proofs.LimitLaws.{within}
 use borrow.Author.Needs.{needs}
 use Rattle.processor.proofs.event.place_record.Statement.{statement}
 use Rattle.processor.proofs.event.place_record.Tie as tie
@@ -24,9 +24,7 @@ priority-of-requires : tie.Need-priority-of-requires
 priority-of-requires c κs = search needs
 
 place-requires : tie.Need-place-requires
-place-requires c κs =
-    let s = c .before .before .before .before .before .before .before in
-    omega (arith, within (s .args .s) (s .pre .1 .0) .limhi-most, s .pre .0)
+place-requires c κs = search needs
 
 same-length : tie.Need-same-length
 same-length c = search needs
@@ -39,8 +37,8 @@ returns-2 c =
     let el = rc .before .before in
     let s = el .before .before .before in
     let e = sym (el .before .eligible .ensures) ∙ not-false _ (el .if1 .left) in (
-      simp (pl .place .ensures .0, e, pr .priority-of .ensures, rc .record-of .ensures, s .pre .0),
-      simp (pl .place .ensures .1, e, pr .priority-of .ensures, rc .record-of .ensures, s .pre .0),
+      simp (pl .place .ensures .0, e, pr .priority-of .ensures, rc .record-of .ensures, s .pre .0 .0),
+      simp (pl .place .ensures .1, e, pr .priority-of .ensures, rc .record-of .ensures, s .pre .0 .0),
     )
 
 pub place-record-spec : {M : Type 1} → statement M

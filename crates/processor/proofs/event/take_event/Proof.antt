@@ -1,9 +1,12 @@
+-- `take_event` places the record, counts the outcome, and puts the interval with both into the state.
 use mathlib.Core.Path.{sym, subst}
+use native.Mathlib.Omega.{arith}
+use borrow.Author.Tests.{leb-true}
 use denote.Ref.{now}
 use Rattle.sort.specs.Counts.{OutcomeNames}
 use Rattle.sort.proofs.EventLaws.{outcome-names}
-use Rattle.state.proofs.LimitLaws.{within, boxes-below, beacons-below}
-use Rattle.processor.specs.Event.{stateTaken}
+use Rattle.state.proofs.LimitLaws.{state-limits, boxes-below, beacons-below}
+use Rattle.processor.specs.Event.{intervalTaken}
 use borrow.Author.Needs.{needs}
 use Rattle.processor.proofs.event.take_event.Statement.{statement}
 use Rattle.processor.proofs.event.take_event.Tie as tie
@@ -18,26 +21,28 @@ names k =
 
 place-record-requires : tie.Need-place-record-requires
 place-record-requires c κs =
-    let s = c .before .before .before .before in
-    (s .pre .0 .1, (s .pre .1 .0, (s .pre .1 .1 .0, names (c .before))))
+    let o = c .before in
+    let s = o .before .before .before in
+    ((s .pre .0 .1, leb-true _ _ (state-limits (s .args .s) (s .pre .1 .0) .settings)), (s .pre .1 .1 .0, names o))
 
 counted-requires : tie.Need-counted-requires
 counted-requires c κs =
-    let o = c .before .before .before .before in
+    let o = (let p = c .before .before in p .before .before) in
     let s = o .before .before .before in
-    let w = within (s .args .s) (s .pre .1 .0) in
-    (names o, (boxes-below (s .args .s) w (s .pre .1 .1 .1), beacons-below (s .args .s) w (s .pre .1 .1 .1)))
+    let i = s .args .s .interval in
+    let w = state-limits (s .args .s) (s .pre .1 .0) .interval in
+    (names o, (boxes-below 1000000 i w (s .pre .1 .1 .1), beacons-below 1000000 i w (s .pre .1 .1 .1)))
 
-add-t : tie.Need-add-t
-add-t c = search needs
+add-i : tie.Need-add-i
+add-i c = search needs
 
 same-length : tie.Need-same-length
 same-length c = search needs
 
 returns : tie.Need-returns
-unfolding stateTaken
+unfolding intervalTaken
 returns c =
-    let ct = c .before in
+    let ct = c .before .before in
     let pr = ct .before .before .before in
     let o = pr .before .before in (
       simp (ct .counted .ensures, pr .place-record .ensures .1, o .outcome-of .ensures),
@@ -47,4 +52,10 @@ returns c =
 pub take-event-spec : {M : Type 1} → statement M
 take-event-spec =
     tie.close
-    (tie.spec outcome-of-requires place-record-requires counted-requires add-t same-length returns)
+    (tie.spec
+    outcome-of-requires
+    place-record-requires
+    counted-requires
+    add-i
+    same-length
+    returns)

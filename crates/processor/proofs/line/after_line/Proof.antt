@@ -1,11 +1,27 @@
-use mathlib.Core.Path.{sym, ap, _∙_}
+-- An accepted line finds room, and makes the state that its kind says.
+use mathlib.Core.Path.{_≡_, sym, ap, _∙_, subst}
+use mathlib.Core.Bool.{Bool, true, _&&_, not}
+use Prim.Native.Nat.{_<_}
 use native.Mathlib.Omega.{arith}
-use Rattle.state.proofs.LimitLaws.{within}
-use Rattle.processor.proofs.LineLaws.{isCommand, accepted-room}
-use Rattle.processor.specs.Line.{stateAfter}
+use Rattle.causes.specs.Checks.{numberBy}
+use Rattle.command.specs.declared.command.Line.{Line}
+use Rattle.command.specs.Asked.{isCommand}
+use Rattle.orders.specs.Orders.{mostCommands, loadWaits, commandsFull}
+use Rattle.orders.proofs.OrderLaws.{room, orders-are}
+use Rattle.state.specs.declared.State.{State}
+use Rattle.state.proofs.LimitLaws.{state-limits}
+use Rattle.processor.specs.Line.{commandChecks, stateTold}
+use Rattle.processor.proofs.CallLaws.{command-accepts}
 use borrow.Author.Needs.{needs}
 use Rattle.processor.proofs.line.after_line.Statement.{statement}
 use Rattle.processor.proofs.line.after_line.Tie as tie
+
+-- a command that is accepted is one of at most 32
+accepted-room : (s : State) (l : Line) → numberBy (commandChecks (loadWaits (s .orders)) (commandsFull (s .orders)) l) ≡ 0 → isCommand l ≡ true
+    → s .orders .accepted < mostCommands
+accepted-room s l h k =
+    let a = command-accepts (loadWaits (s .orders)) (commandsFull (s .orders)) l h in
+    room (s .orders) (rw k at (a .room))
 
 enum-told : tie.Need-enum-told
 enum-told c = search needs
@@ -16,20 +32,23 @@ enum-told-2 c = search needs
 enum-known-l : tie.Need-enum-known-l
 enum-known-l c = search needs
 
-push-requires : tie.Need-push-requires
-push-requires c κs =
+keep-waiting-requires : tie.Need-keep-waiting-requires
+keep-waiting-requires c κs =
     let s = c .before .before .before in
     let r = accepted-room (s .args .s) (s .args .l) (s .pre .1) (ap isCommand (c .before .l .given .1)) in
-    let w = within (s .args .s) (s .pre .0) in
+    let w = orders-are (s .args .s .orders) (s .args .s .staging .reach) (state-limits (s .args .s) (s .pre .0) .orders) in
     (omega (arith, w .waiters-most), r)
 
 enum-told-3 : tie.Need-enum-told-3
 enum-told-3 c = search needs
 
+fresh-addresses-requires : tie.Need-fresh-addresses-requires
+fresh-addresses-requires c κs = search needs
+
 set-addresses-requires : tie.Need-set-addresses-requires
 set-addresses-requires c κs =
-    let s = c .before .before in
-    accepted-room (s .args .s) (s .args .l) (s .pre .1) (ap isCommand (c .enum-told3 .given .1))
+    let s = c .before .before .before in
+    accepted-room (s .args .s) (s .args .l) (s .pre .1) (ap isCommand (c .before .enum-told3 .given .1))
 
 enum-known-l-2 : tie.Need-enum-known-l-2
 enum-known-l-2 c = search needs
@@ -40,25 +59,30 @@ set-addresses-requires-2 c κs =
     accepted-room (s .args .s) (s .args .l) (s .pre .1) (ap isCommand (c .before .l2 .given .1))
 
 returns : tie.Need-returns
-unfolding stateAfter
-returns c = sym (ap (stateAfter (c .before .before .args .s)) (c .enum-told .given .1))
+unfolding stateTold
+returns c = sym (ap (stateTold (c .before .before .args .s)) (c .enum-told .given .1))
 
 returns-2 : tie.Need-returns-2
-unfolding stateAfter
-returns-2 c = sym (ap (stateAfter (c .before .before .args .s)) (c .enum-told2 .given .1))
+unfolding stateTold
+returns-2 c = sym (ap (stateTold (c .before .before .args .s)) (c .enum-told2 .given .1))
 
 returns-3 : tie.Need-returns-3
-unfolding stateAfter
-returns-3 c = c .push .ensures ∙ sym (ap (stateAfter (c .before .before .before .before .args .s)) (c .before .before .l .given .1))
+unfolding stateTold
+returns-3 c =
+    let l = c .before .before in
+    c .keep-waiting .ensures ∙ sym (ap (stateTold (l .before .before .args .s)) (l .l .given .1))
 
 returns-4 : tie.Need-returns-4
-unfolding stateAfter
-returns-4 c = c .set-addresses .ensures ∙ sym (ap (stateAfter (c .before .before .before .args .s)) (c .before .enum-told3 .given .1))
+unfolding stateTold
+returns-4 c =
+    let l = c .before .before in
+    simp (c .set-addresses .ensures, c .before .fresh-addresses .ensures) (sym (ap (stateTold (l .before .before .args .s)) (l .enum-told3 .given .1)))
 
 returns-5 : tie.Need-returns-5
-unfolding stateAfter
+unfolding stateTold
 returns-5 c =
-    c .set-addresses2 .ensures ∙ sym (ap (stateAfter (c .before .before .before .before .args .s)) (c .before .before .l2 .given .1))
+    let l = c .before .before in
+    c .set-addresses2 .ensures ∙ sym (ap (stateTold (l .before .before .args .s)) (l .l2 .given .1))
 
 pub after-line-spec : {M : Type 1} → statement M
 after-line-spec =
@@ -67,8 +91,9 @@ after-line-spec =
     enum-told
     enum-told-2
     enum-known-l
-    push-requires
+    keep-waiting-requires
     enum-told-3
+    fresh-addresses-requires
     set-addresses-requires
     enum-known-l-2
     set-addresses-requires-2

@@ -1,62 +1,74 @@
+-- 1 and 4 are judged first, and leave the echo; all else is `take_line`'s.
+use mathlib.Core.Path.{_≡_}
+use mathlib.Core.Bool.{_&&_, cond}
+use borrow.Author.Tests.{ne-eqb}
 use denote.Ref.{now}
-use mathlib.Core.Path.{sym, _∙_}
-use borrow.Author.Tests.{eq-eqb, ne-eqb, not-true, not-false}
-use Rattle.processor.specs.Line.{lineNumber, lineAnswer, lineEcho}
-use Rattle.processor.proofs.LineLaws.{line-short}
+use lib.Dec.{eqb}
+use lib.ListN.{length}
+use Rattle.command.specs.Echo.{echoBytes}
+use Rattle.command.specs.Grammar.{bytesOk}
+use Rattle.state.specs.Limits.{withinLimits}
+use Rattle.processor.specs.Line.{lineDone}
+use Rattle.processor.proofs.CallLaws.{line-short, line-early, early-passed}
 use borrow.Author.Needs.{needs}
 use Rattle.processor.proofs.line.line.Statement.{statement}
 use Rattle.processor.proofs.line.line.Tie as tie
 
-returns : tie.Need-returns
-unfolding lineAnswer lineEcho lineNumber
-returns c = let e = ne-eqb _ _ (c .if1 .taken) in (simp e, simp e)
-
 within-limits-requires : tie.Need-within-limits-requires
 within-limits-requires c κs = search needs
-
-returns-2 : tie.Need-returns-2
-unfolding lineAnswer lineEcho lineNumber
-returns-2 c =
-    let e = eq-eqb _ _ (c .before .before .if1 .left) in
-    let w = sym (c .before .within-limits .ensures) ∙ not-true _ (c .if2 .taken) in
-    (simp (e, w), simp (e, w))
 
 bytes-ok-requires : tie.Need-bytes-ok-requires
 bytes-ok-requires c κs = search needs
 
-returns-3 : tie.Need-returns-3
-unfolding lineAnswer lineEcho lineNumber
-returns-3 c =
-    let b = c .before in
-    let w = b .before .before in
-    let e = eq-eqb _ _ (w .before .if1 .left) in
-    let l = sym (w .within-limits .ensures) ∙ not-false _ (b .before .if2 .left) in
-    let k = sym (b .bytes-ok .ensures) ∙ not-true _ (c .if3 .taken) in
-    (simp (e, l, k), simp (e, l, k))
+unless-requires : tie.Need-unless-requires
+unless-requires c κs = search needs
+
+unless-requires-2 : tie.Need-unless-requires-2
+unless-requires-2 c κs = search needs
+
+-- the number that is judged first
+abbrev start : tie.After-unless2 → tie.Start
+start u = let w = u .before .before .before in w .before .before .before
+
+first-is : (u : tie.After-unless2)
+    → u .unless2 .result
+    ≡ cond (withinLimits (start u .args .state) && eqb (length (now (start u .args .echo))) echoBytes) (cond (bytesOk (now (start u .args .line))) 0 4) 1
+first-is u =
+    let b = u .before .before in
+    simp (u .unless2 .ensures, u .before .unless .ensures, b .bytes-ok .ensures, b .before .within-limits .ensures)
+
+returns : tie.Need-returns
+unfolding lineDone
+returns c =
+    let u = c .before in
+    let s = start u in
+    let k = line-early (s .args .state) (now (s .args .line)) (length (now (s .args .echo))) (u .unless2 .result) (first-is u) (c .if1 .taken) in
+    let n = ne-eqb _ _ (c .if1 .taken) in
+    (simp (k .0, n), simp (k .0, n, k .1))
 
 take-line-requires : tie.Need-take-line-requires
 take-line-requires c κs =
-    let b = c .before .before in
-    let w = b .before .before in
-    let l = sym (w .within-limits .ensures) ∙ not-false _ (b .before .if2 .left) in
-    let k = sym (b .bytes-ok .ensures) ∙ not-false _ (c .before .if3 .left) in
-    ((w .before .if1 .left, line-short (now (w .before .before .before .before .args .line)) k), (l, k))
+    let l = c .before in
+    let u = l .before in
+    let s = start u in
+    let p = early-passed (s .args .state) (now (s .args .line)) (length (now (s .args .echo))) (u .unless2 .result) (first-is u) (l .if1 .left) in
+    ((p .1, line-short (now (s .args .line)) (p .2)), (p .0, p .2))
 
 same-length : tie.Need-same-length
 same-length c = search needs
 
-returns-4 : tie.Need-returns-4
-returns-4 c = search needs
+returns-2 : tie.Need-returns-2
+returns-2 c = search needs
 
 pub line-spec : {M : Type 1} → statement M
 line-spec =
     tie.close
     (tie.spec
-    returns
     within-limits-requires
-    returns-2
     bytes-ok-requires
-    returns-3
+    unless-requires
+    unless-requires-2
+    returns
     take-line-requires
     same-length
-    returns-4)
+    returns-2)

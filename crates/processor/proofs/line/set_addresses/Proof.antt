@@ -1,15 +1,13 @@
-use mathlib.Core.Path.{refl}
-use Rattle.processor.specs.Line.{addressed}
+-- `set_addresses` puts the counted orders and the addresses into the state.
 use borrow.Author.Needs.{needs}
 use Rattle.processor.proofs.line.set_addresses.Statement.{statement}
 use Rattle.processor.proofs.line.set_addresses.Tie as tie
 
-add-t : tie.Need-add-t
-add-t c = search needs
+count-requires : tie.Need-count-requires
+count-requires c κs = search needs
 
 returns : tie.Need-returns
-unfolding addressed
-returns c = refl
+returns c = simp (c .count .ensures)
 
 pub set-addresses-spec : {M : Type 1} → statement M
-set-addresses-spec = tie.close (tie.spec add-t returns)
+set-addresses-spec = tie.close (tie.spec count-requires returns)

@@ -1,7 +1,8 @@
+-- A reading whose number is 0 is added, and any other changes nothing.
 use mathlib.Core.Path.{sym, _∙_}
 use borrow.Author.Tests.{ne-eqb}
-use Rattle.processor.specs.Reading.{readingAnswer}
-use Rattle.processor.proofs.EventLaws.{reading-takes}
+use Rattle.processor.specs.Reading.{readingDone}
+use Rattle.processor.proofs.CallLaws.{reading-takes}
 use borrow.Author.Needs.{needs}
 use Rattle.processor.proofs.reading.reading.Statement.{statement}
 use Rattle.processor.proofs.reading.reading.Tie as tie
@@ -10,14 +11,14 @@ reading-number-requires : tie.Need-reading-number-requires
 reading-number-requires c κs = search needs
 
 returns : tie.Need-returns
-unfolding readingAnswer
+unfolding readingDone
 returns c = simp (sym (c .before .reading-number .ensures), ne-eqb _ _ (c .if1 .taken))
 
 take-reading-requires : tie.Need-take-reading-requires
 take-reading-requires c κs = reading-takes (c .before .before .args .state) (sym (c .before .reading-number .ensures) ∙ c .if1 .left)
 
 returns-2 : tie.Need-returns-2
-unfolding readingAnswer
+unfolding readingDone
 returns-2 c =
     let l = c .before in
     let e = sym (l .before .reading-number .ensures) ∙ l .if1 .left in

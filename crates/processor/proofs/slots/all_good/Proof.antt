@@ -1,3 +1,4 @@
+-- The scan of `all_good` has tested what is behind it.
 use Prim.Native.Nat.{_≤_, _-_, _+_}
 use mathlib.Core.Bool.{_&&_}
 use mathlib.Core.Path.{_≡_, refl, ap, _∙_}
@@ -6,7 +7,7 @@ use lib.ListN.{length, drop}
 use denote.Ref.{now}
 use Rattle.wire.specs.Lists.{all}
 use Rattle.wire.proofs.Lists.{scan-step, scan-end}
-use Rattle.packet.specs.Read.{recordGood}
+use Rattle.sample_record.specs.Record.{recordGood}
 use borrow.Author.Needs.{needs}
 use Rattle.processor.proofs.slots.all_good.Statement.{statement}
 use Rattle.processor.proofs.slots.all_good.Tie as tie

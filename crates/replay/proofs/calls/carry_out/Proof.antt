@@ -1,3 +1,4 @@
+-- `carry_out` hands each call a body of the length that it asks.
 use borrow.Author.Needs.{needs}
 use Rattle.replay.proofs.calls.carry_out.Statement.{statement}
 use Rattle.replay.proofs.calls.carry_out.Tie as tie
@@ -5,12 +6,14 @@ use Rattle.replay.proofs.calls.carry_out.Tie as tie
 event-requires : tie.Need-event-requires
 event-requires c κs =
     let m = c .before .before .before .before in
-    m .before .before .before .before .before .before .before .pre .0 (m .match .keys1)
+    let s = m .before .before .before .before .before .before .before in
+    s .pre .0 (m .match .keys1)
 
 reading-requires : tie.Need-reading-requires
 reading-requires c κs =
     let m = c .before .before in
-    m .before .before .before .before .before .before .before .pre .1 (m .match .keys2)
+    let s = m .before .before .before .before .before .before .before in
+    s .pre .1 (m .match .keys2)
 
 line-requires : tie.Need-line-requires
 line-requires c κs = search needs
@@ -18,7 +21,8 @@ line-requires c κs = search needs
 close-requires : tie.Need-close-requires
 close-requires c κs =
     let m = c .before .before .before .before .before in
-    m .before .before .before .before .before .before .before .pre .2 (m .match .keys4)
+    let s = m .before .before .before .before .before .before .before in
+    s .pre .2 (m .match .keys4)
 
 package-requires : tie.Need-package-requires
 package-requires c κs = search needs

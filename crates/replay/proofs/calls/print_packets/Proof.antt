@@ -1,3 +1,4 @@
+-- `print_packets` takes one packet off what is left at each turn, and stops where less than one is left.
 use mathlib.Core.Path.{_≡_}
 use lib.ListN.{length}
 use borrow.Author.Needs.{needs}

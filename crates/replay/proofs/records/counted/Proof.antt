@@ -1,11 +1,11 @@
+-- A record that `counted` finds has the length that stands in front of its body.
 use mathlib.Core.Path.{_∙_}
 use native.Mathlib.Omega.{arith}
 use denote.Ref.{now}
 use Rattle.stream.specs.Input.{waitingIn}
 use Rattle.stream.proofs.InputLaws.{first-same}
-use Rattle.stream.proofs.RecordLaws.{found-then, found-head}
-use Rattle.replay.specs.Record.{headOf}
-use Rattle.replay.proofs.RecordLaws.{head-three, counted-body}
+use Rattle.stream.proofs.RecordLaws.{found-then}
+use Rattle.replay.proofs.RecordLaws.{counted-body}
 use borrow.Author.Needs.{needs}
 use Rattle.replay.proofs.records.counted.Statement.{statement}
 use Rattle.replay.proofs.records.counted.Tie as tie
@@ -37,8 +37,10 @@ whole-requires c κs =
     let f = u .before .before .before .before .before .before in
     let s = f .before .before .before in
     let new = s .pre .1 .1 in
-    let same = first-same (s .args .input) (f .fill .result) (now (s .args .buffer)) (f .fill .last .0) (s .pre .0) (f .fill .ensures .0) (f .fill .ensures .1) (new .0) in
-    (f .fill .ensures .0, (omega (arith, u .u16-at .ok), (omega arith, same ∙ new .1)))
+    let j = f .fill .result in
+    let e = f .fill .ensures in
+    let same = first-same (s .args .input) j (now (s .args .buffer)) (f .fill .last .0) (s .pre .0) (e .0) (e .1) (new .0) in
+    (e .0, (omega (arith, u .u16-at .ok), (omega arith, same ∙ new .1)))
 
 same-length-2 : tie.Need-same-length-2
 same-length-2 c = search needs
@@ -51,11 +53,11 @@ returns-2 c =
     let s = f .before .before .before in
     let k = s .args .kind in
     let t = s .pre .1 .0 in
-    let old = waitingIn (s .args .input) (now (s .args .buffer)) in
     let r = w .whole .result in
-    let q = w .whole .ensures .1 in (
-      found-head (λ _. 3) headOf k _ r old _ (head-three k t) q (found-then (λ _. 3) r old _ _ (f .fill .ensures .1) (w .whole .ensures .0)),
-      counted-body k _ r (f .fill .result) (f .fill .last .0) _ t (f .fill .ensures .0) (omega arith) (u .u16-at .ensures) q (w .whole .ensures .0),
+    let e = f .fill .ensures in
+    let g = w .whole .ensures in (
+      found-then r (waitingIn (s .args .input) (now (s .args .buffer))) _ _ (e .1) (g .0),
+      counted-body k _ r (f .fill .result) (f .fill .last .0) _ t (e .0) (omega arith) (u .u16-at .ensures) (g .1) (g .0),
     )
 
 pub counted-spec : {M : Type 1} → statement M

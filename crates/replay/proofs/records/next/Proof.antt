@@ -1,12 +1,12 @@
+-- What `next` finds stands where the bytes waited before the fill, behind a head of its kind.
 use mathlib.Core.Path.{refl, sym, _∙_}
 use native.Mathlib.Omega.{arith}
 use lib.ListN.{getD}
 use denote.Ref.{now}
 use Rattle.stream.specs.Input.{waitingIn}
 use Rattle.stream.proofs.InputLaws.{length-waiting, begins-none}
-use Rattle.stream.proofs.RecordLaws.{found-then, found-head}
-use Rattle.replay.specs.Record.{headOf}
-use Rattle.replay.proofs.RecordLaws.{head-one, own-long}
+use Rattle.stream.proofs.RecordLaws.{found-then}
+use Rattle.replay.proofs.RecordLaws.{own-long}
 use borrow.Author.Needs.{needs}
 use Rattle.replay.proofs.records.next.Statement.{statement}
 use Rattle.replay.proofs.records.next.Tie as tie
@@ -43,10 +43,9 @@ returns-2 : tie.Need-returns-2
 returns-2 c =
     let w = c .before .before in
     let f = w .before .before .before .before .before .before .before .before .before in
-    let s = f .before .before .before in (
-      found-then headOf (w .counted .result) (waitingIn (s .args .input) (now (s .args .buffer))) _ _ (f .fill .ensures .1) (w .counted .ensures .0),
-      w .counted .ensures .1,
-    )
+    let a = f .before .before .before .args in
+    let e = w .counted .ensures in
+    (found-then (w .counted .result) (waitingIn (a .input) (now (a .buffer))) _ _ (f .fill .ensures .1) (e .0), e .1)
 
 fixed-bytes-requires : tie.Need-fixed-bytes-requires
 fixed-bytes-requires c κs = search needs
@@ -72,15 +71,13 @@ returns-4 c =
     let n = w .before .before .before .fixed-bytes .ensures in
     let i = w .before .before .before .before .before in
     let f = i .before .before .before .before .before .before in
-    let s = f .before .before .before in
-    let old = waitingIn (s .args .input) (now (s .args .buffer)) in
+    let a = f .before .before .before .args in
     let k = getD (f .fill .last .0) (f .fill .result .at) 0 in
-    let t = sym (i .is-counted .ensures) ∙ w .before .before .before .before .if2 .left in
+    let b = w .before .before .before .before in
+    let t = sym (i .is-counted .ensures) ∙ b .if2 .left in
     let r = w .whole .result in
-    let q = w .whole .ensures .1 in (
-      found-head (λ _. 1) headOf k _ r old _ (head-one k t) q (found-then (λ _. 1) r old _ _ (f .fill .ensures .1) (w .whole .ensures .0)),
-      own-long k _ r _ t (n .1) q,
-    )
+    let e = w .whole .ensures in
+    (found-then r (waitingIn (a .input) (now (a .buffer))) _ _ (f .fill .ensures .1) (e .0), own-long k _ r _ t (n .1) (e .1))
 
 pub next-spec : {M : Type 1} → statement M
 next-spec =

@@ -1,3 +1,4 @@
+-- `bounded` tests the sign before it casts, so that only columns from 0 to 127 are inside.
 use Rattle.sort.proofs.MachineDivision.{bounded-neg, bounded-in, bounded-out, cast-ok, is-neg, is-pos}
 use Rattle.sort.proofs.columns.bounded.Statement.{statement}
 use Rattle.sort.proofs.columns.bounded.Tie as tie

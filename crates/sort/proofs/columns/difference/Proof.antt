@@ -1,3 +1,4 @@
+-- `difference` is exact on both sides of zero, and fits a signed number of 32 bits.
 use Prim.Native.Nat.{_-_}
 use mathlib.Core.Path.{sym, _∙_}
 use mir.Syntax.{w32}

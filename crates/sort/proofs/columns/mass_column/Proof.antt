@@ -1,3 +1,4 @@
+-- `mass_column` divides the difference that `mass-sub` names.
 use mathlib.Core.Path.{sym, ap, _∙_}
 use lib.IntN.{ℤ}
 use mir.Syntax.{w32}
@@ -32,9 +33,12 @@ floor-div-requires c κs = search needs
 returns : tie.Need-returns
 returns c =
     let s = c .before .before in
-    toZ-ofZ w32 (c .floor-div .result) record { sfits = c .floor-div .ok }
-    ∙ c .floor-div .ensures
-    ∙ ap (λ (z : ℤ). floorZ z 32768) (toZ-ofZ w32 (c .before .difference .result) record { sfits = c .before .difference .ok } ∙ c .before .difference .ensures)
+    let f = c .floor-div in
+    let m = c .before .difference in
+    let e = toZ-ofZ w32 (m .result) record { sfits = m .ok } ∙ m .ensures in
+    toZ-ofZ w32 (f .result) record { sfits = f .ok }
+    ∙ f .ensures
+    ∙ ap (λ (z : ℤ). floorZ z 32768) e
     ∙ sym (mass-sub (s .args .e) (s .args .k) (s .args .t) (s .args .ktof))
 
 pub mass-column-spec : {M : Type 1} → statement M

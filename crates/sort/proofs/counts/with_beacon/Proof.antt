@@ -1,9 +1,13 @@
+-- `with_beacon` raises the count at index n - 1 only where the beacon is not 0.
 use Prim.Native.Nat.{_-_}
 use native.Mathlib.Omega.{arith}
 use borrow.Author.Tests.{le-leb, lt-leb}
 use borrow.Author.Needs.{needs}
 use Rattle.sort.proofs.counts.with_beacon.Statement.{statement}
 use Rattle.sort.proofs.counts.with_beacon.Tie as tie
+
+sub-i : tie.Need-sub-i
+sub-i c = search needs
 
 mul-n : tie.Need-mul-n
 mul-n c = search needs
@@ -28,4 +32,4 @@ returns-2 c = simp (lt-leb _ _ (c .if1 .left))
 
 pub with-beacon-spec : {M : Type 1} → statement M
 with-beacon-spec =
-    tie.close (tie.spec mul-n element-copy-out-n add-d mul-d element-write-d returns returns-2)
+    tie.close (tie.spec sub-i mul-n element-copy-out-n add-d mul-d element-write-d returns returns-2)

@@ -1,3 +1,4 @@
+-- `with_box` raises the count at index b - 1, which is there and does not overflow.
 use Prim.Native.Nat.{_-_}
 use native.Mathlib.Omega.{arith}
 use borrow.Author.Needs.{needs}

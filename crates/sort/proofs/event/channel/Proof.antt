@@ -1,3 +1,4 @@
+-- `channel` chooses by the gain that `gain` found.
 use mathlib.Core.Path.{sym, _∙_}
 use borrow.Author.Needs.{needs}
 use Rattle.sort.proofs.event.channel.Statement.{statement}

@@ -1,3 +1,4 @@
+-- `beacon_used` makes the test of `beaconUsed`.
 use borrow.Author.Tests.{le-leb, lt-leb}
 use Rattle.sort.proofs.matrix.beacon_used.Statement.{statement}
 use Rattle.sort.proofs.matrix.beacon_used.Tie as tie

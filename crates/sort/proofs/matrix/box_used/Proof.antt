@@ -1,3 +1,4 @@
+-- `box_used` makes the test of `boxUsed`.
 use Rattle.sort.proofs.matrix.box_used.Statement.{statement}
 use Rattle.sort.proofs.matrix.box_used.Tie as tie
 

@@ -1,3 +1,4 @@
+-- `cell_at` reads the first two bytes of the cell, which lie within the matrix.
 use Rattle.sort.specs.Matrix.{cellOf}
 use borrow.Author.Needs.{needs}
 use Rattle.sort.proofs.matrix.cell_at.Statement.{statement}

@@ -1,3 +1,4 @@
+-- `eligible` tests the box that `box_of` gives.
 use borrow.Author.Needs.{needs}
 use Rattle.sort.proofs.samples.eligible.Statement.{statement}
 use Rattle.sort.proofs.samples.eligible.Tie as tie

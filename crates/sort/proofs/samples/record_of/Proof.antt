@@ -1,3 +1,4 @@
+-- `record_of` packs the fields of `sampleFrom`, which fit their bits.
 use native.Mathlib.Omega.{arith}
 use Rattle.sort.specs.Samples.{eventRecord}
 use Rattle.sort.proofs.EventLaws.{in-range, channel-fits, box-fits}

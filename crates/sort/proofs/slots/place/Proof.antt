@@ -1,3 +1,4 @@
+-- `place` makes the tests of `placeOf` in their order, and writes the slot and the two numbers of the place found.
 use borrow.Author.Tests.{lt-ltb, le-ltb}
 use Rattle.sort.specs.Samples.{placeOf}
 use borrow.Author.Needs.{needs}
@@ -10,8 +11,8 @@ mul-slots c = search needs
 slice-write-slots : tie.Need-slice-write-slots
 slice-write-slots c = search needs
 
-add-t9 : tie.Need-add-t9
-add-t9 c = search needs
+add-t10 : tie.Need-add-t10
+add-t10 c = search needs
 
 same-length : tie.Need-same-length
 same-length c = search needs
@@ -26,8 +27,8 @@ mul-slots-2 c = search needs
 slice-write-slots-2 : tie.Need-slice-write-slots-2
 slice-write-slots-2 c = search needs
 
-add-t12 : tie.Need-add-t12
-add-t12 c = search needs
+add-t13 : tie.Need-add-t13
+add-t13 c = search needs
 
 same-length-2 : tie.Need-same-length-2
 same-length-2 c = search needs
@@ -61,12 +62,12 @@ place-spec =
     (tie.spec
     mul-slots
     slice-write-slots
-    add-t9
+    add-t10
     same-length
     returns
     mul-slots-2
     slice-write-slots-2
-    add-t12
+    add-t13
     same-length-2
     returns-2
     returns-3

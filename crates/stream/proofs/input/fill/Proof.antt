@@ -1,3 +1,4 @@
+-- What `fill` moves to the start and what it reads behind that begin with the bytes that waited.
 use lib.Seq.{take-length}
 use denote.Ref.{now}
 use Rattle.stream.proofs.InputLaws.{moved-begins}

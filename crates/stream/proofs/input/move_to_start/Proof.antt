@@ -1,3 +1,4 @@
+-- `move_to_start` copies in ascending order, so no byte is overwritten before it is moved.
 use Prim.Native.Nat.{_≤_, _-_}
 use mathlib.Core.Path.{_≡_, refl, _∙_}
 use native.Mathlib.Omega.{arith}
@@ -10,7 +11,8 @@ use Rattle.stream.proofs.input.move_to_start.Tie as tie
 
 abbrev Inv-loop : tie.InvT-loop
 Inv-loop buffer₀ at end i₀ buffer i =
-    (at ≤ i) × (i ≤ end) × (length buffer ≡ length buffer₀) × (take (i - at) buffer ≡ take (i - at) (drop at buffer₀)) × (drop i buffer ≡ drop i buffer₀)
+    (at ≤ i) × (i ≤ end) × (length buffer ≡ length buffer₀)
+    × (take (i - at) buffer ≡ take (i - at) (drop at buffer₀)) × (drop i buffer ≡ drop i buffer₀)
 
 abbrev μ-loop : tie.MeasureT-loop
 μ-loop buffer₀ at end i₀ buffer i = end - i

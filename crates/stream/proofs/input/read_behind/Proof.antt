@@ -1,3 +1,4 @@
+-- Each read of `read_behind` writes behind the bytes that are held, so these stay.
 use Prim.Native.Nat.{_≤_, _-_}
 use mathlib.Core.Path.{_≡_, _∙_}
 use native.Mathlib.Omega.{arith}
@@ -37,7 +38,10 @@ returns c =
     let k = c .before .before .before in
     let l = k .before .before .before in
     let v = l .loop .inv in
-    ((v .0, v .1), front-kept (l .before .before .args .held) (l .loop .end) (length (l .loop .buffer) - l .loop .end) (l .loop .buffer) (k .read .last .0) (v .0) (omega arith) ∙ v .3)
+    let b = l .loop .buffer in
+    let e = l .loop .end in
+    let kept = front-kept (l .before .before .args .held) e (length b - e) b (k .read .last .0) (v .0) (omega arith) in
+    ((v .0, v .1), kept ∙ v .3)
 
 add-end : tie.Need-add-end Inv-loop μ-loop
 add-end c = search needs
@@ -49,12 +53,11 @@ loop-again : tie.Need-loop-again Inv-loop μ-loop
 loop-again c =
     let k = c .before .before .before in
     let l = k .before .before .before in
-    let v = l .loop .inv in (
-      omega (arith, v),
-      search needs,
-      search needs,
-      front-kept (l .before .before .args .held) (l .loop .end) (length (l .loop .buffer) - l .loop .end) (l .loop .buffer) (k .read .last .0) (v .0) (omega arith) ∙ v .3,
-    )
+    let v = l .loop .inv in
+    let b = l .loop .buffer in
+    let e = l .loop .end in
+    let kept = front-kept (l .before .before .args .held) e (length b - e) b (k .read .last .0) (v .0) (omega arith) in
+    (omega (arith, v), search needs, search needs, kept ∙ v .3)
 
 same-length-2 : tie.Need-same-length-2 Inv-loop μ-loop
 same-length-2 c = search needs

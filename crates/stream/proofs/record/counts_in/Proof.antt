@@ -1,3 +1,4 @@
+-- `counts_in` reads the eight counts of a reading at their places.
 use borrow.Author.Needs.{needs}
 use Rattle.stream.proofs.record.counts_in.Statement.{statement}
 use Rattle.stream.proofs.record.counts_in.Tie as tie

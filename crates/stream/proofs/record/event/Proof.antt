@@ -1,6 +1,7 @@
+-- `event` refuses a flag byte over 15 and hands any other event to the processor.
 use mathlib.Core.Path.{sym}
 use borrow.Author.Tests.{le-leb, lt-leb}
-use Rattle.stream.specs.Record.{recordAnswer, recordSlots}
+use Rattle.stream.specs.Record.{recordDone}
 use borrow.Author.Needs.{needs}
 use Rattle.stream.proofs.record.event.Statement.{statement}
 use Rattle.stream.proofs.record.event.Tie as tie
@@ -9,7 +10,7 @@ shared-slice-read-if1 : tie.Need-shared-slice-read-if1
 shared-slice-read-if1 c = search needs
 
 returns : tie.Need-returns
-unfolding recordAnswer recordSlots
+unfolding recordDone
 returns c = let n = lt-leb _ _ (c .if1 .taken) in (simp n, simp n)
 
 event-in-requires : tie.Need-event-in-requires
@@ -22,7 +23,7 @@ same-length : tie.Need-same-length
 same-length c = search needs
 
 returns-2 : tie.Need-returns-2
-unfolding recordAnswer recordSlots
+unfolding recordDone
 returns-2 c =
     let e = c .before .before in
     let i = e .before in

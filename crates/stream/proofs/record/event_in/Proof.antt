@@ -1,3 +1,4 @@
+-- `event_in` takes each field and each flag of an event from its place in the body.
 use Rattle.stream.specs.Record.{eventIn}
 use borrow.Author.Needs.{needs}
 use Rattle.stream.proofs.record.event_in.Statement.{statement}
@@ -15,17 +16,17 @@ u16-at-requires-2 c κs = search needs
 u16-at-requires-3 : tie.Need-u16-at-requires-3
 u16-at-requires-3 c κs = search needs
 
-flag-requires : tie.Need-flag-requires
-flag-requires c κs = search needs
+is-set-requires : tie.Need-is-set-requires
+is-set-requires c κs = search needs
 
-flag-requires-2 : tie.Need-flag-requires-2
-flag-requires-2 c κs = search needs
+is-set-requires-2 : tie.Need-is-set-requires-2
+is-set-requires-2 c κs = search needs
 
-flag-requires-3 : tie.Need-flag-requires-3
-flag-requires-3 c κs = search needs
+is-set-requires-3 : tie.Need-is-set-requires-3
+is-set-requires-3 c κs = search needs
 
-flag-requires-4 : tie.Need-flag-requires-4
-flag-requires-4 c κs = search needs
+is-set-requires-4 : tie.Need-is-set-requires-4
+is-set-requires-4 c κs = search needs
 
 returns : tie.Need-returns
 unfolding eventIn
@@ -39,8 +40,8 @@ event-in-spec =
     u16-at-requires
     u16-at-requires-2
     u16-at-requires-3
-    flag-requires
-    flag-requires-2
-    flag-requires-3
-    flag-requires-4
+    is-set-requires
+    is-set-requires-2
+    is-set-requires-3
+    is-set-requires-4
     returns)

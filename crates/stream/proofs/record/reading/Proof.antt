@@ -1,3 +1,4 @@
+-- `reading` answers as the processor does for the counts in the body.
 use borrow.Author.Needs.{needs}
 use Rattle.stream.proofs.record.reading.Statement.{statement}
 use Rattle.stream.proofs.record.reading.Tie as tie

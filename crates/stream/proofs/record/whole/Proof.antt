@@ -1,5 +1,5 @@
-use mathlib.Core.Path.{_≡_, refl, _∙_}
-use Prim.Native.Nat.{_+_, _-_}
+-- The record that `whole` finds begins where the bytes waited, and its body has the length asked.
+use mathlib.Core.Path.{refl, _∙_}
 use native.Mathlib.Nat.{add-sub-cancel-left}
 use native.Mathlib.Omega.{arith}
 use denote.Ref.{now}
@@ -41,11 +41,11 @@ returns-2 c =
     let s = f .before .before .before in
     let i = s .args .input in
     let j = f .fill .result in
-    let e : j .at + s .args .head - s .args .head ≡ j .at = omega arith in
     let new = s .pre .1 .1 in
-    let same = first-same i j (now (s .args .buffer)) (f .fill .last .0) (s .pre .0) (f .fill .ensures .0) (f .fill .ensures .1) (new .0) in (
-      (omega arith, omega arith, (omega arith, omega arith), rw e (same ∙ new .1), rw e (f .fill .ensures .1)),
-      (refl, add-sub-cancel-left _ _),
+    let e = f .fill .ensures in
+    let same = first-same i j (now (s .args .buffer)) (f .fill .last .0) (s .pre .0) (e .0) (e .1) (new .0) in (
+      (omega arith, omega arith, (omega arith, omega arith), same ∙ new .1, e .1),
+      (refl, refl, add-sub-cancel-left _ _),
     )
 
 pub whole-spec : {M : Type 1} → statement M

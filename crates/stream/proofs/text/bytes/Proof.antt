@@ -1,3 +1,4 @@
+-- `bytes` goes over the bytes once and leaves the text's length as it is.
 use Prim.Native.Nat.{_≤_, _-_}
 use mathlib.Core.Path.{_≡_}
 use lib.ListN.{length}

@@ -1,3 +1,4 @@
+-- `flush` writes out the filled part only where the buffer holds it.
 use mathlib.Core.Path.{sym}
 use lib.Seq.{length-take-le}
 use borrow.Author.Needs.{needs}

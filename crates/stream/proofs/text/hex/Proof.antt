@@ -1,3 +1,4 @@
+-- `hex` goes over the bytes once and hands on digits below sixteen only.
 use Prim.Native.Nat.{_≤_, _-_}
 use mathlib.Core.Path.{_≡_}
 use native.Mathlib.Omega.{arith}

@@ -1,0 +1,61 @@
+-- What the number of a row of checks says: 0 where all are passed, and otherwise the lowest number that applies. Assumes nothing.
+use mathlib.Core.Path.{_≡_, refl, sym, ap, _∙_}
+use mathlib.Core.Bool.{Bool, true, false, _&&_, not, cond, false≢true}
+use mathlib.Core.List.{List, [], _∷_, _++_}
+use mathlib.Core.Logic.{_⊎_, inl, inr}
+use Prim.Native.Nat.{ℕ, _≤_}
+use native.Mathlib.Omega.{arith}
+use borrow.Author.Tests.{leb-true}
+use lib.Dec.{leb}
+use Rattle.causes.specs.Checks.{Check, numberBy, Passed, Applies, numbered, none, ascendingFrom}
+
+and-parts : (a b : Bool) → (a && b) ≡ true → (a ≡ true) × (b ≡ true)
+and-parts true b h = (refl, h)
+and-parts false b h = absurd (false≢true h)
+
+-- a call that is carried out passed every test
+pub all-passed : (cs : List Check) → numbered cs ≡ true → numberBy cs ≡ 0 → Passed cs
+all-passed [] h e = tt
+all-passed (c ∷ cs) h e =
+    let p = and-parts (leb 1 (c .1)) (numbered cs) h in
+    go (c .0) refl (leb-true 1 (c .1) (p .0)) (all-passed cs (p .1)) e
+  where
+    go : (b : Bool) → c .0 ≡ b → 1 ≤ c .1 → (numberBy cs ≡ 0 → Passed cs) → cond b (numberBy cs) (c .1) ≡ 0 → (c .0 ≡ true) × Passed cs
+    go true q l ih e = (q, ih e)
+    go false q l ih e = absurd (omega arith)
+
+-- a number that passes a test which none of the first checks' numbers passes comes from behind them: they are all passed
+pub passed-first : (f : ℕ → Bool) (cs ds : List Check) → none f cs ≡ true → f (numberBy (cs ++ ds)) ≡ true → Passed cs
+passed-first f [] ds h e = tt
+passed-first f (c ∷ cs) ds h e =
+    let p = and-parts (not (f (c .1))) (none f cs) h in
+    go (c .0) refl (p .0) (passed-first f cs ds (p .1)) e
+  where
+    go : (b : Bool) → c .0 ≡ b → not (f (c .1)) ≡ true → (f (numberBy (cs ++ ds)) ≡ true → Passed cs)
+        → f (cond b (numberBy (cs ++ ds)) (c .1)) ≡ true → (c .0 ≡ true) × Passed cs
+    go true q n ih e = (q, ih e)
+    go false q n ih e = absurd (false≢true (sym (ap not e) ∙ n))
+
+-- the number of a call that is refused applies
+pub number-applies : (cs : List Check) → (numberBy cs ≡ 0 → ⊥) → Applies (numberBy cs) cs
+number-applies [] h = absurd (h refl)
+number-applies (c ∷ cs) h = go (c .0) refl h (number-applies cs)
+  where
+    go : (b : Bool) → c .0 ≡ b → (cond b (numberBy cs) (c .1) ≡ 0 → ⊥) → ((numberBy cs ≡ 0 → ⊥) → Applies (numberBy cs) cs)
+        → ((c .0 ≡ false) × (c .1 ≡ cond b (numberBy cs) (c .1))) ⊎ Applies (cond b (numberBy cs) (c .1)) cs
+    go true q h ih = inr (ih h)
+    go false q h ih = inl (q, refl)
+
+-- where a number applies, the call's number is at most that
+pub number-lowest : (m n : ℕ) (cs : List Check) → ascendingFrom m cs ≡ true → Applies n cs → (m ≤ numberBy cs) × (numberBy cs ≤ n)
+number-lowest m n [] h a = absurd a
+number-lowest m n (c ∷ cs) h a =
+    let p = and-parts (leb m (c .1)) (ascendingFrom (c .1) cs) h in
+    go (c .0) refl (leb-true m (c .1) (p .0)) (number-lowest (c .1) n cs (p .1)) a
+  where
+    go : (b : Bool) → c .0 ≡ b → m ≤ c .1 → (Applies n cs → (c .1 ≤ numberBy cs) × (numberBy cs ≤ n))
+        → ((c .0 ≡ false) × (c .1 ≡ n)) ⊎ Applies n cs → (m ≤ cond b (numberBy cs) (c .1)) × (cond b (numberBy cs) (c .1) ≤ n)
+    go true q l ih (inl e) = absurd (false≢true (sym (e .0) ∙ q))
+    go true q l ih (inr r) = let k = ih r in (omega arith, k .1)
+    go false q l ih (inl e) = (l, omega (arith, e .1))
+    go false q l ih (inr r) = let k = ih r in (l, omega arith)

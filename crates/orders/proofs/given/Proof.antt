@@ -1,0 +1,81 @@
+-- `given` tests the waiting commands, one after the other, with no early exit.
+use Prim.Native.Nat.{_≤_, _-_, _+_}
+use mathlib.Core.Bool.{_&&_}
+use mathlib.Core.Path.{_≡_, refl, sym, ap, _∙_}
+use native.Mathlib.Omega.{arith}
+use lib.ListN.{length, take, drop}
+use lib.Seq.{getD-take}
+use Rattle.wire.specs.Lists.{all}
+use Rattle.wire.proofs.Lists.{scan-step, scan-end}
+use Rattle.orders.specs.Orders.{filler, givenAt}
+use borrow.Author.Needs.{needs}
+use Rattle.orders.proofs.given.Statement.{statement}
+use Rattle.orders.proofs.given.Tie as tie
+
+abbrev Inv-loop : tie.InvT-loop
+Inv-loop reach n waiting ok₀ i₀ ok i =
+    (i ≤ n) × ((ok && all (givenAt reach) (drop i (take n waiting))) ≡ all (givenAt reach) (take n waiting))
+
+abbrev μ-loop : tie.MeasureT-loop
+μ-loop reach n waiting ok₀ i₀ ok i = n - i
+
+in-use-requires : tie.Need-in-use-requires Inv-loop μ-loop
+in-use-requires c κs = search needs
+
+loop-holds : tie.Need-loop-holds Inv-loop μ-loop
+loop-holds c = (omega arith, refl)
+
+mul-x : tie.Need-mul-x Inv-loop μ-loop
+mul-x c = search needs
+
+array-copy-out-x : tie.Need-array-copy-out-x Inv-loop μ-loop
+array-copy-out-x c = search needs
+
+command-ok-requires : tie.Need-command-ok-requires Inv-loop μ-loop
+command-ok-requires c κs = search needs
+
+add-i : tie.Need-add-i Inv-loop μ-loop
+add-i c = search needs
+
+loop-less : tie.Need-loop-less Inv-loop μ-loop
+loop-less c = search needs
+
+loop-again : tie.Need-loop-again Inv-loop μ-loop
+loop-again c =
+    let l = c .before .before .before in
+    let u = l .before .before in
+    let n = u .in-use .result in
+    let w = u .before .args .o .waiting in
+    let p = givenAt (u .before .args .reach) in
+    let i = l .loop .i in
+    let k : length (take n w) ≡ n = u .in-use .ensures .1 in
+    let e = c .command-ok .ensures ∙ sym (ap p (getD-take n w i filler (omega arith))) in (
+      omega arith,
+      ap (λ b. (l .loop .ok && b) && all p (drop (i + 1) (take n w))) e
+          ∙ scan-step p (take n w) filler (l .loop .ok) i (omega arith) (l .loop .inv .1),
+    )
+
+returns : tie.Need-returns Inv-loop μ-loop
+returns c =
+    let l = c .before in
+    let u = l .before .before in
+    let w = take (u .in-use .result) (u .before .args .o .waiting) in
+    let p = givenAt (u .before .args .reach) in
+    let k : length w ≡ u .in-use .result = u .in-use .ensures .1 in
+    scan-end p w filler (l .loop .ok) (l .loop .i) (omega arith) (l .loop .inv .1) ∙ ap (all p) (u .in-use .ensures .2)
+
+pub given-spec : {M : Type 1} → statement M
+given-spec =
+    tie.close
+    (tie.spec
+    Inv-loop
+    μ-loop
+    in-use-requires
+    loop-holds
+    mul-x
+    array-copy-out-x
+    command-ok-requires
+    add-i
+    loop-less
+    loop-again
+    returns)

@@ -1,0 +1,13 @@
+-- `load_waits` asks whether there is a load among those that wait.
+use borrow.Author.Needs.{needs}
+use Rattle.orders.proofs.load_waits.Statement.{statement}
+use Rattle.orders.proofs.load_waits.Tie as tie
+
+loads-requires : tie.Need-loads-requires
+loads-requires c κs = search needs
+
+returns : tie.Need-returns
+returns c = simp (c .loads .ensures)
+
+pub load-waits-spec : {M : Type 1} → statement M
+load-waits-spec = tie.close (tie.spec loads-requires returns)

@@ -1,0 +1,90 @@
+-- `loads` counts the loads among the waiting commands.
+use Prim.Native.Nat.{_≤_, _-_, _+_}
+use mathlib.Core.Bool.{cond}
+use mathlib.Core.Logic.{⊎-elim}
+use mathlib.Core.Path.{_≡_, sym, ap, _∙_}
+use native.Mathlib.Omega.{arith}
+use lib.ListN.{length, take, drop}
+use lib.Seq.{getD-take}
+use Rattle.wire.proofs.Lists.{count-step, count-end}
+use Rattle.command.specs.Asked.{isLoad}
+use Rattle.orders.specs.Orders.{filler, loadsIn}
+use borrow.Author.Needs.{needs}
+use Rattle.orders.proofs.loads.Statement.{statement}
+use Rattle.orders.proofs.loads.Tie as tie
+
+abbrev Inv-loop : tie.InvT-loop
+Inv-loop n waiting count₀ i₀ count i = (i ≤ n) × (count ≤ i) × (count + loadsIn (drop i (take n waiting)) ≡ loadsIn (take n waiting))
+
+abbrev μ-loop : tie.MeasureT-loop
+μ-loop n waiting count₀ i₀ count i = n - i
+
+in-use-requires : tie.Need-in-use-requires Inv-loop μ-loop
+in-use-requires c κs = search needs
+
+loop-holds : tie.Need-loop-holds Inv-loop μ-loop
+loop-holds c = (omega arith, omega arith, omega arith)
+
+mul-x : tie.Need-mul-x Inv-loop μ-loop
+mul-x c = search needs
+
+array-copy-out-x : tie.Need-array-copy-out-x Inv-loop μ-loop
+array-copy-out-x c = search needs
+
+is-load-requires : tie.Need-is-load-requires Inv-loop μ-loop
+is-load-requires c κs = search needs
+
+add-count : tie.Need-add-count Inv-loop μ-loop
+add-count c = search needs
+
+add-i : tie.Need-add-i Inv-loop μ-loop
+add-i c = search needs
+
+loop-less : tie.Need-loop-less Inv-loop μ-loop
+loop-less c = search needs
+
+loop-again : tie.Need-loop-again Inv-loop μ-loop
+unfolding loadsIn
+loop-again c =
+    let x = c .before .before in
+    let l = x .before .before in
+    let u = l .before .before in
+    let n = u .in-use .result in
+    let w = u .before .args .o .waiting in
+    let i = l .loop .i in
+    let k : length (take n w) ≡ n = u .in-use .ensures .1 in
+    let e = c .before .is-load .ensures ∙ sym (ap (λ x. isLoad (x .command)) (getD-take n w i filler (omega arith))) in
+    let st = count-step (λ x. isLoad (x .command)) (take n w) filler i (omega arith) in
+    let cnt : c .if1 .count ≡ l .loop .count + cond (c .before .is-load .result) 1 0 =
+    ⊎-elim (λ q. q .1 ∙ rw (q .0 .taken)) (λ q. q .1 ∙ rw (q .0 .left) (omega arith)) (c .if1 .came) in
+    let t : cond (c .before .is-load .result) 1 0 + loadsIn (drop (i + 1) (take n w)) ≡ loadsIn (drop i (take n w)) =
+    ap (λ b. cond b 1 0 + loadsIn (drop (i + 1) (take n w))) e ∙ sym st in
+    (omega arith, ⊎-elim (λ q. omega (arith, q .1)) (λ q. omega (arith, q .1)) (c .if1 .came), omega arith)
+
+returns : tie.Need-returns Inv-loop μ-loop
+unfolding loadsIn
+returns c =
+    let l = c .before in
+    let u = l .before .before in
+    let w = take (u .in-use .result) (u .before .args .o .waiting) in
+    let k : length w ≡ u .in-use .result = u .in-use .ensures .1 in
+    let z = count-end (λ x. isLoad (x .command)) w filler (l .loop .i) (omega arith) in
+    let s : l .loop .count ≡ loadsIn w = omega arith in
+    s ∙ ap loadsIn (u .in-use .ensures .2)
+
+pub loads-spec : {M : Type 1} → statement M
+loads-spec =
+    tie.close
+    (tie.spec
+    Inv-loop
+    μ-loop
+    in-use-requires
+    loop-holds
+    mul-x
+    array-copy-out-x
+    is-load-requires
+    add-count
+    add-i
+    loop-less
+    loop-again
+    returns)

@@ -1,0 +1,106 @@
+-- `run_loads` runs the waiting commands on the tables, one after the other.
+use Prim.Native.Nat.{_≤_, _-_, _+_}
+use mathlib.Core.Path.{_≡_, refl, sym, ap, _∙_}
+use native.Mathlib.Omega.{arith}
+use lib.ListN.{length, take, drop}
+use lib.Seq.{getD-take}
+use denote.Ref.{now}
+use Rattle.wire.proofs.Lists.{all-get}
+use Rattle.command.specs.Change.{tablesAfter}
+use Rattle.orders.specs.Orders.{filler, givenAt}
+use Rattle.orders.specs.Run.{tablesAfterAll}
+use Rattle.orders.proofs.OrderLaws.{orders-are}
+use Rattle.orders.proofs.RunLaws.{tables-step, tables-end}
+use borrow.Author.Needs.{needs}
+use Rattle.orders.proofs.run_loads.Statement.{statement}
+use Rattle.orders.proofs.run_loads.Tie as tie
+
+abbrev Inv-loop : tie.InvT-loop
+Inv-loop tables₀ staging reach n waiting i₀ tables i =
+    (i ≤ n)
+    × (length tables ≡ length tables₀)
+    × (tablesAfterAll tables staging reach (drop i (take n waiting)) ≡ tablesAfterAll tables₀ staging reach (take n waiting))
+
+abbrev μ-loop : tie.MeasureT-loop
+μ-loop tables₀ staging reach n waiting i₀ tables i = n - i
+
+in-use-requires : tie.Need-in-use-requires Inv-loop μ-loop
+in-use-requires c κs = search needs
+
+loop-holds : tie.Need-loop-holds Inv-loop μ-loop
+loop-holds c = (omega arith, refl, refl)
+
+mul-x : tie.Need-mul-x Inv-loop μ-loop
+mul-x c = search needs
+
+array-copy-out-x : tie.Need-array-copy-out-x Inv-loop μ-loop
+array-copy-out-x c = search needs
+
+run-command-requires : tie.Need-run-command-requires Inv-loop μ-loop
+run-command-requires c κs =
+    let l = c .before .before .before in
+    let u = l .before .before in
+    let s = u .before .before .before in
+    let n = u .in-use .result in
+    let w = s .args .o .waiting in
+    let i = l .loop .i in
+    let g = givenAt (s .args .reach) in
+    let k : length (take n w) ≡ n = u .in-use .ensures .1 in
+    let e = rw (sym (u .in-use .ensures .2)) at (orders-are (s .args .o) (s .args .reach) (s .pre .1) .given) in
+    (search needs, ap g (sym (getD-take n w i filler (omega arith))) ∙ all-get g (take n w) filler i (omega arith) e)
+
+add-i : tie.Need-add-i Inv-loop μ-loop
+add-i c = search needs
+
+loop-less : tie.Need-loop-less Inv-loop μ-loop
+loop-less c = search needs
+
+loop-again : tie.Need-loop-again Inv-loop μ-loop
+loop-again c =
+    let r = c .before .before in
+    let l = r .before .before .before .before in
+    let u = l .before .before in
+    let s = u .before .before .before .args in
+    let n = u .in-use .result in
+    let w = s .o .waiting in
+    let i = l .loop .i in
+    let staging = now (s .staging) in
+    let k : length (take n w) ≡ n = u .in-use .ensures .1 in
+    let x = getD-take n w i filler (omega arith) in
+    let e = r .run-command .ensures ∙ sym (ap (λ x. tablesAfter (l .loop .tables) staging (s .reach) (x .command)) x) in (
+      omega arith,
+      omega arith,
+      ap (λ x. tablesAfterAll x staging (s .reach) (drop (i + 1) (take n w))) e
+          ∙ tables-step staging (s .reach) (l .loop .tables) (take n w) i (omega arith)
+          ∙ l .loop .inv .2,
+    )
+
+same-length : tie.Need-same-length Inv-loop μ-loop
+same-length c = search needs
+
+returns : tie.Need-returns Inv-loop μ-loop
+returns c =
+    let l = c .before in
+    let u = l .before .before in
+    let s = u .before .before .before .args in
+    let w = take (u .in-use .result) (s .o .waiting) in
+    let k : length w ≡ u .in-use .result = u .in-use .ensures .1 in
+    sym (tables-end (now (s .staging)) (s .reach) (l .loop .tables) w (l .loop .i) (omega arith)) ∙ l .loop .inv .2
+    ∙ ap (tablesAfterAll (now (s .tables)) (now (s .staging)) (s .reach)) (u .in-use .ensures .2)
+
+pub run-loads-spec : {M : Type 1} → statement M
+run-loads-spec =
+    tie.close
+    (tie.spec
+    Inv-loop
+    μ-loop
+    in-use-requires
+    loop-holds
+    mul-x
+    array-copy-out-x
+    run-command-requires
+    add-i
+    loop-less
+    loop-again
+    same-length
+    returns)

@@ -1,0 +1,79 @@
+-- `run_settings` runs the waiting commands on the settings, one after the other.
+use Prim.Native.Nat.{_≤_, _-_, _+_}
+use mathlib.Core.Path.{_≡_, refl, sym, ap, _∙_}
+use native.Mathlib.Omega.{arith}
+use lib.ListN.{length, take, drop}
+use lib.Seq.{getD-take}
+use Rattle.command.specs.Change.{settingsAfter}
+use Rattle.orders.specs.Orders.{filler}
+use Rattle.orders.specs.Run.{settingsAfterAll}
+use Rattle.orders.proofs.RunLaws.{settings-step, settings-end}
+use borrow.Author.Needs.{needs}
+use Rattle.orders.proofs.run_settings.Statement.{statement}
+use Rattle.orders.proofs.run_settings.Tie as tie
+
+abbrev Inv-loop : tie.InvT-loop
+Inv-loop n waiting t₀ i₀ t i = (i ≤ n) × (settingsAfterAll t (drop i (take n waiting)) ≡ settingsAfterAll t₀ (take n waiting))
+
+abbrev μ-loop : tie.MeasureT-loop
+μ-loop n waiting t₀ i₀ t i = n - i
+
+in-use-requires : tie.Need-in-use-requires Inv-loop μ-loop
+in-use-requires c κs = search needs
+
+loop-holds : tie.Need-loop-holds Inv-loop μ-loop
+loop-holds c = (omega arith, refl)
+
+mul-x : tie.Need-mul-x Inv-loop μ-loop
+mul-x c = search needs
+
+array-copy-out-x : tie.Need-array-copy-out-x Inv-loop μ-loop
+array-copy-out-x c = search needs
+
+applied-in-place-requires : tie.Need-applied-in-place-requires Inv-loop μ-loop
+applied-in-place-requires c κs = search needs
+
+add-i : tie.Need-add-i Inv-loop μ-loop
+add-i c = search needs
+
+loop-less : tie.Need-loop-less Inv-loop μ-loop
+loop-less c = search needs
+
+loop-again : tie.Need-loop-again Inv-loop μ-loop
+loop-again c =
+    let l = c .before .before .before in
+    let u = l .before .before in
+    let n = u .in-use .result in
+    let w = u .before .args .o .waiting in
+    let i = l .loop .i in
+    let k : length (take n w) ≡ n = u .in-use .ensures .1 in
+    let x = getD-take n w i filler (omega arith) in
+    let e = c .applied-in-place .ensures ∙ sym (ap (λ x. settingsAfter (l .loop .t) (x .command)) x) in (
+      omega arith,
+      ap (λ x. settingsAfterAll x (drop (i + 1) (take n w))) e ∙ settings-step (l .loop .t) (take n w) i (omega arith) ∙ l .loop .inv .1,
+    )
+
+returns : tie.Need-returns Inv-loop μ-loop
+returns c =
+    let l = c .before in
+    let u = l .before .before in
+    let w = take (u .in-use .result) (u .before .args .o .waiting) in
+    let k : length w ≡ u .in-use .result = u .in-use .ensures .1 in
+    sym (settings-end (l .loop .t) w (l .loop .i) (omega arith)) ∙ l .loop .inv .1
+    ∙ ap (settingsAfterAll (u .before .args .settings)) (u .in-use .ensures .2)
+
+pub run-settings-spec : {M : Type 1} → statement M
+run-settings-spec =
+    tie.close
+    (tie.spec
+    Inv-loop
+    μ-loop
+    in-use-requires
+    loop-holds
+    mul-x
+    array-copy-out-x
+    applied-in-place-requires
+    add-i
+    loop-less
+    loop-again
+    returns)

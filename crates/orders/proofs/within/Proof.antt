@@ -1,0 +1,42 @@
+-- `within` judges the limits in their order; of a list that has no entry in use nothing is left to judge.
+use native.Mathlib.Omega.{arith}
+use borrow.Author.Tests.{le-leb, lt-leb}
+use Rattle.wire.specs.Lists.{keep}
+use Rattle.orders.specs.Orders.{loadsIn, ordersWithin}
+use borrow.Author.Needs.{needs}
+use Rattle.orders.proofs.within.Statement.{statement}
+use Rattle.orders.proofs.within.Tie as tie
+
+returns : tie.Need-returns
+unfolding ordersWithin
+returns c = simp (lt-leb _ _ (c .if1 .taken))
+
+returns-2 : tie.Need-returns-2
+unfolding ordersWithin loadsIn keep
+returns-2 c =
+    let a = c .before .before in
+    simp (le-leb _ _ (a .if1 .left), c .if2 .taken, le-leb 0 (a .before .before .args .o .accepted) (omega arith))
+
+returns-3 : tie.Need-returns-3
+unfolding ordersWithin
+returns-3 c =
+    let a = c .before .before .before .before in
+    simp (le-leb _ _ (a .if1 .left), lt-leb _ _ (c .if3 .taken))
+
+given-requires : tie.Need-given-requires
+given-requires c κs = search needs
+
+loads-requires : tie.Need-loads-requires
+loads-requires c κs = search needs
+
+returns-4 : tie.Need-returns-4
+unfolding ordersWithin
+returns-4 c =
+    let g = c .before in
+    let w = g .before in
+    let a = w .before .before .before .before in
+    simp (le-leb _ _ (a .if1 .left), le-leb _ _ (w .if3 .left), g .given .ensures, c .loads .ensures)
+
+pub within-spec : {M : Type 1} → statement M
+within-spec =
+    tie.close (tie.spec returns returns-2 returns-3 given-requires loads-requires returns-4)

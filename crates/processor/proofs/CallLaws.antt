@@ -1,0 +1,189 @@
+-- What a call that is carried out (or, of a package, staged) has passed, check by check. Assumes nothing.
+use mathlib.Core.Path.{_≡_, refl, sym, ap, _∙_}
+use mathlib.Core.Bool.{Bool, true, false, _&&_, _||_, not, cond, false≢true}
+use mathlib.Core.List.{List, [], _∷_}
+use mathlib.Core.Logic.{_⊎_, inl, inr}
+use Prim.Native.Nat.{ℕ, _≤_, _<_}
+use native.Mathlib.Omega.{arith}
+use borrow.Author.Tests.{eqb-true, ltb-true, leb-true, leb-false, not-true, not-false}
+use lib.Dec.{eqb, leb, ltb}
+use lib.ListN.{length}
+use Rattle.causes.specs.Causes as cause
+use Rattle.causes.specs.Checks.{Check, numberBy}
+use Rattle.causes.proofs.CheckLaws.{all-passed, passed-first}
+use Rattle.wire.specs.Lists.{all}
+use Rattle.wire.proofs.Lists.{and-left, and-split}
+use Rattle.settings.specs.Settings.{slotCount}
+use Rattle.tables.specs.Tables.{tableBytes}
+use Rattle.sample_record.specs.Record.{recordGood}
+use Rattle.sort.specs.declared.event.Event.{Event}
+use Rattle.sort.specs.Event.{inRange}
+use Rattle.load.specs.Staging.{stagingBytes, formed, fits, placeable, receivedSum, computedSum, packageChecks}
+use Rattle.command.specs.declared.command.Line.{Line}
+use Rattle.command.specs.Asked.{isWrong, isCommand, usesStaging}
+use Rattle.command.specs.Echo.{echoBytes}
+use Rattle.command.specs.Grammar.{bytesOk, lineOf}
+use Rattle.orders.specs.declared.Orders.{Orders}
+use Rattle.orders.specs.Orders.{mostCommands, loadWaits, commandsFull}
+use Rattle.state.specs.declared.State.{State}
+use Rattle.state.specs.Interval.{mostEvents, mostReadings}
+use Rattle.state.specs.Limits.{withinLimits}
+use Rattle.processor.specs.Event.{eventChecks, eventNumber}
+use Rattle.processor.specs.Reading.{readingChecks, readingNumber}
+use Rattle.processor.specs.Line.{commandChecks, lineChecks, lineNumber}
+use Rattle.processor.specs.Package.{isStaged, packageCallChecks, packageCallNumber}
+use Rattle.processor.specs.Close.{outBytes, closeChecks, closeNumber}
+
+-- ---- an event
+
+pub record Takes (s : State) (tables slots : ℕ) (e : Event) : Type 0 where
+  pub limits : withinLimits s ≡ true
+  pub tables-are : tables ≡ tableBytes
+  pub slots-are : slots ≡ slotCount
+  pub range : inRange e ≡ true
+  pub room : s .interval .taken < mostEvents
+
+pub event-takes : (s : State) (tables slots : ℕ) (e : Event) → eventNumber s tables slots e ≡ 0 → Takes s tables slots e
+unfolding eventNumber
+event-takes s tables slots e h =
+    let p = all-passed (eventChecks s tables slots e) refl h in
+    let q = and-split _ _ (p .0) in
+    let r = and-split _ _ (q .0) in
+    record {
+      limits = r .0;
+      tables-are = eqb-true _ _ (r .1);
+      slots-are = eqb-true _ _ (q .1);
+      range = p .1 .0;
+      room = ltb-true _ _ (p .1 .1 .0);
+    }
+
+-- ---- a reading
+
+pub reading-takes : (s : State) → readingNumber s ≡ 0 → (withinLimits s ≡ true) × (s .interval .readings < mostReadings)
+unfolding readingNumber
+reading-takes s h = let p = all-passed (readingChecks s) refl h in (p .0, ltb-true _ _ (p .1 .0))
+
+-- ---- a line
+
+-- a command that is accepted is right, finds no load waiting where that would block it, and is one of at most 32
+pub record Accepts (waits full : Bool) (l : Line) : Type 0 where
+  pub right : not (isWrong l) ≡ true
+  pub free : not (usesStaging l && waits) ≡ true
+  pub room : not (isCommand l && full) ≡ true
+
+pub command-accepts : (waits full : Bool) (l : Line) → numberBy (commandChecks waits full l) ≡ 0 → Accepts waits full l
+command-accepts waits full l h =
+    let p = all-passed (commandChecks waits full l) refl h in
+    record { right = p .0; free = p .1 .0; room = p .1 .1 .0 }
+
+-- past 1 and 4, the number is that of the command
+pub line-number : (s : State) (line : List ℕ) (echo : ℕ) → withinLimits s ≡ true → eqb echo echoBytes ≡ true → bytesOk line ≡ true
+    → lineNumber s line echo ≡ numberBy (commandChecks (loadWaits (s .orders)) (commandsFull (s .orders)) (lineOf line (s .staging .reach)))
+unfolding lineNumber
+line-number s line echo w e b = rw (w, e, b)
+
+-- a line that is accepted passes each check
+pub record Tells (s : State) (line : List ℕ) (echo : ℕ) : Type 0 where
+  pub limits : withinLimits s ≡ true
+  pub echo-is : eqb echo echoBytes ≡ true
+  pub bytes : bytesOk line ≡ true
+  pub accepts : numberBy (commandChecks (loadWaits (s .orders)) (commandsFull (s .orders)) (lineOf line (s .staging .reach))) ≡ 0
+
+pub line-tells : (s : State) (line : List ℕ) (echo : ℕ) → lineNumber s line echo ≡ 0 → Tells s line echo
+unfolding lineNumber
+line-tells s line echo h =
+    let p = all-passed (lineChecks s line echo) refl h in
+    let q = and-split _ _ (p .0) in
+    record { limits = q .0; echo-is = q .1; bytes = p .1 .0; accepts = rw (q .0, q .1, p .1 .0) at h }
+
+-- a number of a command that is not 0 is 5, 6 or 7
+pub command-five : (wrong staging command waits full : Bool)
+    → (_≡_ {A = ℕ} (cond (not wrong) (cond (not (staging && waits)) (cond (not (command && full)) 0 7) 6) 5) 0 → ⊥)
+    → leb 5 (cond (not wrong) (cond (not (staging && waits)) (cond (not (command && full)) 0 7) 6) 5) ≡ true
+command-five true staging command waits full h = refl
+command-five false staging command waits full h = go (not (staging && waits)) (not (command && full)) h
+  where
+    go : (b c : Bool) → (_≡_ {A = ℕ} (cond b (cond c 0 7) 6) 0 → ⊥) → leb 5 (cond b (cond c 0 7) 6) ≡ true
+    go true true h = absurd (h refl)
+    go true false h = refl
+    go false c h = refl
+
+-- 1 and 4, judged before the command: a number that is not 0 is the call's, and neither 5 nor above
+pub line-early : (s : State) (line : List ℕ) (echo n : ℕ) → n ≡ cond (withinLimits s && eqb echo echoBytes) (cond (bytesOk line) 0 4) 1
+    → (n ≡ 0 → ⊥) → (lineNumber s line echo ≡ n) × (leb 5 n ≡ false)
+unfolding lineNumber
+line-early s line echo n e h = go (withinLimits s && eqb echo echoBytes) (bytesOk line) _ e
+  where
+    go : (a b : Bool) (rest : ℕ) → n ≡ cond a (cond b 0 4) 1 → (cond a (cond b rest 4) 1 ≡ n) × (leb 5 n ≡ false)
+    go true true rest e = absurd (h e)
+    go true false rest e = (sym e, ap (leb 5) e)
+    go false b rest e = (sym e, ap (leb 5) e)
+
+pub early-passed : (s : State) (line : List ℕ) (echo n : ℕ) → n ≡ cond (withinLimits s && eqb echo echoBytes) (cond (bytesOk line) 0 4) 1
+    → n ≡ 0 → (withinLimits s ≡ true) × (echo ≡ echoBytes) × (bytesOk line ≡ true)
+early-passed s line echo n e z =
+    let p = all-passed ((withinLimits s && eqb echo echoBytes, cause.bufferOrState) ∷ (bytesOk line, cause.lineBytes) ∷ []) refl (sym e ∙ z) in
+    let q = and-split _ _ (p .0) in
+    (q .0, eqb-true _ _ (q .1), p .1 .0)
+
+pub line-short : (line : List ℕ) → bytesOk line ≡ true → length line ≤ 80
+line-short line h = leb-true _ _ (and-left _ _ h)
+
+-- ---- a package
+
+pub record Stages (s : State) (p : List ℕ) (staging echo : ℕ) : Type 0 where
+  pub limits : withinLimits s ≡ true
+  pub staging-is : staging ≡ stagingBytes
+  pub echo-is : echo ≡ echoBytes
+  pub no-load : not (loadWaits (s .orders)) ≡ true
+  pub is-formed : formed p ≡ true
+  pub is-placeable : placeable p (s .staging .next) ≡ true
+
+pub package-stages : (s : State) (p : List ℕ) (staging echo : ℕ) → isStaged (packageCallNumber s p staging echo) ≡ true → Stages s p staging echo
+unfolding packageCallNumber
+package-stages s p staging echo h =
+    let first : List Check =
+    (withinLimits s && eqb staging stagingBytes && eqb echo echoBytes, cause.bufferOrState)
+    ∷ (not (loadWaits (s .orders)), cause.loadWaits)
+    ∷ (formed p, cause.packageForm)
+    ∷ (fits p (s .staging .next), cause.pastStaging)
+    ∷ [] in
+    let k = passed-first isStaged first ((eqb (receivedSum p) (computedSum p), cause.packageSum) ∷ []) refl h in
+    let q = and-split _ _ (k .0) in
+    let r = and-split _ _ (q .0) in
+    record {
+      limits = r .0;
+      staging-is = eqb-true _ _ (r .1);
+      echo-is = eqb-true _ _ (q .1);
+      no-load = k .1 .0;
+      is-formed = k .1 .1 .0;
+      is-placeable = rw (k .1 .1 .0, k .1 .1 .1 .0);
+    }
+
+-- ---- a close
+
+pub record Closes (s : State) (tables staging : ℕ) (slots : List ℕ) (out : ℕ) : Type 0 where
+  pub limits : withinLimits s ≡ true
+  pub tables-are : tables ≡ tableBytes
+  pub staging-is : staging ≡ stagingBytes
+  pub slots-are : length slots ≡ slotCount
+  pub out-is : out ≡ outBytes
+  pub slots-good : all recordGood slots ≡ true
+
+pub close-closes : (s : State) (tables staging : ℕ) (slots : List ℕ) (out : ℕ) → closeNumber s tables staging slots out ≡ 0 → Closes s tables staging slots out
+unfolding closeNumber
+close-closes s tables staging slots out h =
+    let p = all-passed (closeChecks s tables staging slots out) refl h in
+    let a = and-split _ _ (p .0) in
+    let b = and-split _ _ (a .0) in
+    let c = and-split _ _ (b .0) in
+    let d = and-split _ _ (c .0) in
+    let e = and-split _ _ (d .0) in
+    record {
+      limits = e .0;
+      tables-are = eqb-true _ _ (e .1);
+      staging-is = eqb-true _ _ (d .1);
+      slots-are = eqb-true _ _ (c .1);
+      out-is = eqb-true _ _ (b .1);
+      slots-good = a .1;
+    }

@@ -1,0 +1,79 @@
+-- A package whose number is 0 or 10 is staged with its echo, and any other changes nothing.
+use mathlib.Core.Path.{sym, ap, _∙_}
+use borrow.Author.Tests.{not-true, not-false}
+use denote.Ref.{now}
+use lib.ListN.{length}
+use Rattle.processor.specs.Package.{isStaged, packageDone}
+use Rattle.processor.proofs.CallLaws.{Stages, package-stages}
+use borrow.Author.Needs.{needs}
+use Rattle.processor.proofs.load_package.package.Statement.{statement}
+use Rattle.processor.proofs.load_package.package.Tie as tie
+
+package-number-requires : tie.Need-package-number-requires
+package-number-requires c κs = search needs
+
+is-staged-requires : tie.Need-is-staged-requires
+is-staged-requires c κs = search needs
+
+returns : tie.Need-returns
+unfolding packageDone
+returns c =
+    let p = c .before in
+    let n = p .before .package-number .ensures in
+    let e = sym (p .is-staged .ensures) ∙ not-true _ (c .if1 .taken) in
+    (simp (sym n, e), (simp (sym n, e), simp (sym n, e)))
+
+-- what is known of a package that is staged
+abbrev start : tie.Else1 → tie.Start
+start l = let n = l .before .before in (let k = n .before .before in k .before .before)
+
+staged-is : (l : tie.Else1)
+    → Stages (start l .args .state) (now (start l .args .bytes)) (length (now (start l .args .staging))) (length (now (start l .args .echo)))
+staged-is l =
+    let p = l .before in
+    let n = p .before .package-number .ensures in
+    package-stages (start l .args .state) (now (start l .args .bytes)) _ _
+    (ap isStaged (sym n) ∙ sym (p .is-staged .ensures) ∙ not-false _ (l .if1 .left))
+
+echo-staged-requires : tie.Need-echo-staged-requires
+echo-staged-requires c κs =
+    let k = staged-is (c .before) in
+    (k .echo-is, k .is-formed)
+
+stage-requires : tie.Need-stage-requires
+stage-requires c κs =
+    let e = c .before .before .before in
+    let k = staged-is (e .before .before) in
+    (k .staging-is, k .is-placeable)
+
+same-length : tie.Need-same-length
+same-length c = search needs
+
+same-length-2 : tie.Need-same-length-2
+same-length-2 c = search needs
+
+returns-2 : tie.Need-returns-2
+unfolding packageDone
+returns-2 c =
+    let st = c .before .before in
+    let ec = (let k = st .before .before .before in k .before) in
+    let l = ec .before .before in
+    let p = l .before in
+    let n = p .before .package-number .ensures in
+    let e = sym (p .is-staged .ensures) ∙ not-false _ (l .if1 .left) in (
+      simp (sym n, e, st .stage .ensures .0),
+      (simp (sym n, e) (st .stage .ensures .1), simp (sym n, e) (ec .echo-staged .ensures)),
+    )
+
+pub package-spec : {M : Type 1} → statement M
+package-spec =
+    tie.close
+    (tie.spec
+    package-number-requires
+    is-staged-requires
+    returns
+    echo-staged-requires
+    stage-requires
+    same-length
+    same-length-2
+    returns-2)

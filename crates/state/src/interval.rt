@@ -1,0 +1,96 @@
+// The interval: what its events and its second readings have come to.
+ghost use mathlib.Core.Path.{_≡_};
+ghost use Rattle.wire.specs.Lists.{all, atMost};
+ghost use Rattle.state.specs.Interval.{noCounts, freshInterval, countsWithin, slotsWithin, readingsWithin, intervalWithin};
+use sort::counts::Counts;
+use sort::slots::SlotUse;
+
+pub struct Interval {
+    // Events taken.
+    pub taken: u32,
+    pub counts: Counts,
+    // The use that they made of the sample slots.
+    pub samples: SlotUse,
+    // Second readings, and their sums.
+    pub readings: u32,
+    pub totals: [u32; 8],
+}
+
+pub const MOST_EVENTS: u32 = 1000000;
+
+pub const MOST_READINGS: u32 = 60;
+
+pub fn no_counts() -> Counts
+    ensures { λ r. ⌜ r ≡ noCounts ⌝ }
+{
+    Counts {
+        boxes: [0u32; 116],
+        beacons: [0u32; 12],
+    }
+}
+
+// An interval that begins.
+pub fn fresh() -> Interval
+    ensures { λ r. ⌜ r ≡ freshInterval ⌝ }
+{
+    let counts = no_counts();
+    let samples = SlotUse {
+        used: 0,
+        replaced: 0,
+    };
+    Interval {
+        taken: 0,
+        counts: counts,
+        samples: samples,
+        readings: 0,
+        totals: [0u32; 8],
+    }
+}
+
+// Whether each number is at most the limit, without early exit so that the scan vectorises.
+fn all_at_most(a: &[u32], limit: u32) -> bool
+    ensures { λ r. ⌜ r ≡ all (atMost limit) (now (a .entry)) ⌝ }
+{
+    let mut ok = true;
+    let mut i: usize = 0;
+    while i < a.len() {
+        ok = ok & (a[i] <= limit);
+        i += 1;
+    }
+    ok
+}
+
+// Taken, and every box and beacon count at most taken.
+fn counts_within(taken: u32, c: Counts) -> bool
+    ensures { λ r. ⌜ r ≡ countsWithin taken c ⌝ }
+{
+    (taken <= MOST_EVENTS) & all_at_most(&c.boxes, taken) & all_at_most(&c.beacons, taken)
+}
+
+// Used and replaced slots.
+fn slots_within(taken: u32, u: SlotUse) -> bool
+    ensures { λ r. ⌜ r ≡ slotsWithin taken u ⌝ }
+{
+    let most = taken as usize;
+    (u.used <= most) & (u.used <= settings::SLOTS as usize) & (u.replaced <= most)
+}
+
+// Readings and their totals.
+fn readings_within(readings: u32, totals: &[u32; 8]) -> bool
+    ensures { λ r. ⌜ r ≡ readingsWithin readings (now (totals .entry)) ⌝ }
+{
+    if MOST_READINGS < readings {
+        return false;
+    }
+    all_at_most(totals, 65535 * readings)
+}
+
+// Whether an interval is within its limits.
+pub fn within(i: Interval) -> bool
+    ensures { λ r. ⌜ r ≡ intervalWithin i ⌝ }
+{
+    let counts = counts_within(i.taken, i.counts);
+    let slots = slots_within(i.taken, i.samples);
+    let readings = readings_within(i.readings, &i.totals);
+    counts & slots & readings
+}
