@@ -4,8 +4,9 @@ use mathlib.Core.Path.{_≡_, refl, sym}
 use mathlib.Core.Bool.{Bool, true, false, _||_, false≢true}
 use mathlib.Core.List.{List}
 use Prim.Native.Nat.{ℕ}
-use lib.Dec.{eqb}
+use lib.Dec.{eqb, leb}
 use lib.ListN.{length}
+use Rattle.causes.specs.Causes.{wrongLine}
 use Rattle.wire.proofs.Lists.{decide}
 use Rattle.settings.specs.declared.Settings.{Settings}
 use Rattle.orders.specs.Orders.{mostCommands}
@@ -17,7 +18,7 @@ use Rattle.processor.specs.Line.{stateTold, lineNumber, lineDone}
 use Rattle.processor.specs.Package.{isStaged, packageCallNumber, packageDone}
 use Rattle.processor.specs.Close.{closeDone}
 use Rattle.processor.proofs.LimitsKept.{event-kept, reading-kept, line-kept, package-kept, close-kept}
-use Rattle.tally.specs.Calls.{found, Call, event, reading, line, load, close, numberOf, World, next, reply, Typed}
+use Rattle.tally.specs.Calls.{found, Call, event, reading, line, load, close, numberOf, World, lineIn, loadIn, closeIn, next, reply, Typed}
 use Rattle.tally.proofs.Steps.{kept-same}
 
 -- a reading has eight 16-bit counts and a state 32 places for commands, as their types say
@@ -46,6 +47,22 @@ refused-keeps w (reading counts) h = rw (refused _ h)
 refused-keeps w (line bytes echo) h = rw (refused _ h)
 refused-keeps w (load bytes g echo) h = rw (h, kept-same g (w .staging))
 refused-keeps w (close time t g s out) h = rw (refused _ h, kept-same t (w .tables), kept-same s (w .slots))
+
+-- it leaves the output and the echo too: only 5, 6 and 7 of a line have an echo of their own
+abbrev pub LentLeft : World → Call → Type 0
+LentLeft w (event t s e) = Unit {0}
+LentLeft w (reading counts) = Unit {0}
+LentLeft w (line bytes echo) = leb wrongLine (lineIn w bytes echo .answer .number) ≡ false → lineIn w bytes echo .echo ≡ echo
+LentLeft w (load bytes g echo) = loadIn w bytes g echo .echo ≡ echo
+LentLeft w (close time t g s out) = closeIn w time t g s out .out ≡ out
+
+pub refused-leaves : (w : World) (c : Call) → isStaged (numberOf (reply w c)) ≡ false → LentLeft w c
+unfolding reply lineDone packageDone closeDone
+refused-leaves w (event t s e) h = tt
+refused-leaves w (reading counts) h = tt
+refused-leaves w (line bytes echo) h = λ k. rw (refused _ h, k)
+refused-leaves w (load bytes g echo) h = rw h
+refused-leaves w (close time t g s out) h = rw (refused _ h)
 
 -- ---- settings and tables change in a close alone
 

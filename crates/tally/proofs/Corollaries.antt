@@ -39,18 +39,11 @@ use Rattle.tally.specs.Tally.{Tally, freshTally, eventsOf, countsOf, eli
 use Rattle.tally.specs.View.{viewState, view}
 use Rattle.tally.specs.Demand3.{All}
 use Rattle.tally.proofs.Invariant.{Inv, limhi-most, orders-most}
-use Rattle.tally.proofs.Places.{keep-passes, All-sampled}
+use Rattle.tally.proofs.Places.{keep-passes, All-sampled, slots-length}
 use Rattle.tally.proofs.Replies.{step-reply}
 use Rattle.tally.proofs.Theorem.{next-inv, next-lawful, fresh-view, fresh-inv, demand-3}
 
--- ---- the own slots: always 704, each zero or of box 6 to 116
-
-pub slots-length : (t : Tally) → Inv t → length (ownSlots t) ≡ slotCount
-unfolding slotsBy slotsOf padded
-slots-length t v =
-    let s = t .settings in
-    simp (length-append, length-map, length-replicate, length-sampled (priority s (t .tables)) slotCount (s .limhi) (eligibles t) (limhi-most t v))
-    (omega arith)
+-- ---- the own slots: each zero or of box 6 to 116
 
 eligible-box : (junk : Bool) (b : ℕ) → (leb 8 b || (junk && leb 6 b)) ≡ true → 6 ≤ b
 eligible-box junk b h = go (leb 8 b) refl junk (leb 6 b) refl h

@@ -2,6 +2,7 @@ pub mod Balance
 pub mod CallLaws
 pub mod Corollaries
 pub mod CountLaws
+pub mod Intervals
 pub mod Invariant
 pub mod Places
 pub mod Replies

@@ -6,7 +6,7 @@ use mathlib.Core.List.{List, [], _∷_, _++_, map, map-map}
 use Prim.Native.Nat.{ℕ, zero, suc, _+_, _≤_, _<_, min}
 use native.Mathlib.Numerals.{add-one}
 use native.Mathlib.Omega.{arith}
-use lib.ListN.{length, getD, take, drop, length-map, length-append}
+use lib.ListN.{length, getD, take, drop, length-map, length-append, length-replicate}
 use lib.Seq.{append-snoc, getD-append-seam}
 use Rattle.wire.specs.Lists.{joinIf, keep}
 use Rattle.settings.specs.Settings.{slotCount}
@@ -224,3 +224,11 @@ samples-differ t v =
           ∙ length-sampled (priority s (t .tables)) slotCount (s .limhi) (eligibles t) (limhi-most t v);
       slots-are = slots-places s (t .tables) es;
     }
+
+-- there are always 704
+pub slots-length : (t : Tally) → Inv t → length (ownSlots t) ≡ slotCount
+unfolding slotsBy slotsOf padded
+slots-length t v =
+    let s = t .settings in
+    simp (length-append, length-map, length-replicate, length-sampled (priority s (t .tables)) slotCount (s .limhi) (eligibles t) (limhi-most t v))
+    (omega arith)

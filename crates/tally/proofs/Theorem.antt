@@ -27,9 +27,10 @@ use Rattle.processor.proofs.LimitsKept.{fresh-kept}
 use Rattle.tally.specs.Calls.{Lent, own, other, found, isOwn, Call, event, reading, line, load, close, Reply, closed, numberOf, World, freshWorld, next, reply, replies, after, owns, Typed, LawfulCall, Lawful}
 use Rattle.tally.specs.Tally.{Tally, freshTally, eventsOf, checksFor, numberFor, hasEffect, afterCall, tnext, treply, treplies, tafter, countsOf}
 use Rattle.tally.specs.View.{viewState, view}
-use Rattle.tally.specs.Demand3.{All, Balanced, Moment, Moments, ClosedBalanced, takenOne, takenCalls, takenIn, takenClosed, OtherIs, OthersKept, EachKept, demand3}
+use Rattle.tally.specs.Demand3.{All, Balanced, Moment, Moments, ClosedRight, Intervals, ClosedBalanced, takenOne, takenCalls, takenIn, takenClosed, OtherIs, OthersKept, EachKept, demand3}
 use Rattle.tally.proofs.Balance.{counts-balanced}
 use Rattle.tally.proofs.CallLaws.{limits-kept}
+use Rattle.tally.proofs.Intervals.{reply-right}
 use Rattle.tally.proofs.Invariant.{all-snoc, Inv, orders-most}
 use Rattle.tally.proofs.Places.{samples-differ}
 use Rattle.tally.proofs.Replies.{filled-slots, step-reply}
@@ -98,6 +99,13 @@ all-moments (c ∷ cs) t v l = (
 )
 
 -- ---- closed intervals
+
+all-intervals : (cs : List Call) (t : Tally) → Inv t → Lawful (view t) cs → Intervals t (view t) cs
+all-intervals [] t v l = tt
+all-intervals (c ∷ cs) t v l = (
+  subst (ClosedRight t) (sym (step-reply t v c (l .1 .0))) (reply-right t c v),
+  subst (λ w. Intervals (tnext t c) w cs) (sym (step-next t v c (l .1 .0))) (all-intervals cs (tnext t c) (next-inv t c cs v l) (next-lawful t c cs v l)),
+)
 
 none-balanced : Balanced 0 noCounts
 unfolding total
@@ -196,6 +204,7 @@ demand-3 tables staging cs l =
       answers = a;
       ending = ap (λ (w : World). after w cs) e ∙ all-ending cs t v l′;
       moments = subst (λ w. Moments t w cs) (sym e) (all-moments cs t v l′);
+      intervals = subst (λ w. Intervals t w cs) (sym e) (all-intervals cs t v l′);
       closes = subst (All ClosedBalanced) (sym a) (replies-balanced cs t);
       events = sym (zero-add _) ∙ taken-all cs (freshWorld tables staging);
       others = others-all cs (freshWorld tables staging) l;

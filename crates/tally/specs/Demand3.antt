@@ -3,21 +3,23 @@ use mathlib.Core.Path.{_≡_}
 use mathlib.Core.Logic.{_≢_}
 use mathlib.Core.Bool.{true, false}
 use mathlib.Core.List.{List, [], _∷_, map}
-use Prim.Native.Nat.{ℕ, _+_, _-_, _<_, min}
+use Prim.Native.Nat.{ℕ, zero, suc, _+_, _-_, _*_, _<_, min}
 use lib.Dec.{eqb}
-use lib.ListN.{length, getD, drop}
+use lib.ListN.{length, getD, take, drop}
 use Rattle.causes.specs.Causes.{carriedOut}
 use Rattle.wire.specs.Bits.{bitOf}
-use Rattle.wire.specs.Bytes.{total}
+use Rattle.wire.specs.Bytes.{words, total}
 use Rattle.settings.specs.Settings.{slotCount}
 use Rattle.sort.specs.declared.counts.Counts.{Counts}
 use Rattle.sort.specs.declared.event.Event.{Event}
 use Rattle.wire.specs.Pieces.{padded}
 use Rattle.sort.specs.Samples.{filled}
+use Rattle.packet.specs.Packet.{packetBytes}
 use Rattle.state.specs.Limits.{withinLimits}
-use Rattle.tally.specs.Calls.{Lent, own, other, Call, event, reading, line, load, close, Reply, answered, echoed, closed, numberOf, World, freshWorld, eventIn, loadIn, closeIn, next, replies, after, Lawful}
+use Rattle.processor.specs.Close.{samplePackets}
+use Rattle.tally.specs.Calls.{Lent, own, other, Call, event, reading, line, load, close, Reply, answered, echoed, closed, numberOf, World, freshWorld, eventIn, loadIn, closeIn, next, reply, replies, after, Lawful}
 use Rattle.tally.specs.Events.{isEligible, recordFor}
-use Rattle.tally.specs.Tally.{Tally, freshTally, eventsOf, eligibles, tnext, treplies, tafter}
+use Rattle.tally.specs.Tally.{Tally, freshTally, eventsOf, countsOf, eligibles, ownSlots, tnext, treplies, tafter}
 use Rattle.tally.specs.View.{view}
 
 -- every element has the property
@@ -88,6 +90,31 @@ ClosedBalanced (answered n) = Unit {0}
 ClosedBalanced (echoed n echo) = Unit {0}
 ClosedBalanced (closed n taken counts filled out) = Balanced taken counts
 
+-- "A closed interval has the counts its close returned and the slots in its packets"
+
+-- bytes 11-266 of sample packet p, which stands behind the rate packet and p others
+abbrev pub sentIn : (out : List ℕ) (p : ℕ) → List ℕ
+sentIn out p = take 256 (drop (packetBytes * (p + 1) + 11) out)
+
+-- what a close returned of the interval that it ended
+pub record ClosedInterval (t : Tally) (taken : ℕ) (counts : Counts) (filled : ℕ) (out : List ℕ) : Type 0 where
+  pub taken-are : taken ≡ length (eventsOf t)
+  pub counts-are : counts ≡ countsOf t
+  pub filled-are : filled ≡ min slotCount (length (eligibles t))
+  -- "packet p (0 to 10) has slots 64p to 64p + 63"
+  pub slots-are : (p : ℕ) → p < samplePackets → sentIn out p ≡ words (take 64 (drop (64 * p) (ownSlots t)))
+  pub samples : Samples t (ownSlots t)
+
+abbrev pub ClosedRight : Tally → Reply → Type 0
+ClosedRight t (answered n) = Unit {0}
+ClosedRight t (echoed n echo) = Unit {0}
+ClosedRight t (closed zero taken counts filled out) = ClosedInterval t taken counts filled out
+ClosedRight t (closed (suc n) taken counts filled out) = Unit {0}
+
+abbrev pub Intervals : Tally → World → List Call → Type 0
+Intervals t w [] = Unit {0}
+Intervals t w (c ∷ cs) = ClosedRight t (reply w c) × Intervals (tnext t c) (next w c) cs
+
 -- event calls answered 0
 abbrev pub takenOne : Call → Reply → ℕ
 takenOne (event t s e) r = bitOf (eqb (numberOf r) carriedOut)
@@ -138,6 +165,8 @@ pub record Demand3 (tables staging : List ℕ) (cs : List Call) : Type 0 where
   pub ending : after (freshWorld tables staging) cs ≡ view (tafter (freshTally tables staging) cs)
   -- at every moment on the way: limits, balances, samples
   pub moments : Moments (freshTally tables staging) (freshWorld tables staging) cs
+  -- every closed interval has the tally's counts and slots
+  pub intervals : Intervals (freshTally tables staging) (freshWorld tables staging) cs
   -- the balances of every closed interval
   pub closes : All ClosedBalanced (replies (freshWorld tables staging) cs)
   -- event calls answered 0 are those of the closes and of the open interval
