@@ -1,0 +1,117 @@
+-- What the ground reads of an interval that was closed aboard (document 01, demand 2 and "Packets"). Assumes nothing.
+use Prim.Native.Nat.{ℕ, zero, suc, _+_, _*_, _≤_, _<_}
+use mathlib.Core.Path.{_≡_}
+use mathlib.Core.Bool.{true}
+use mathlib.Core.List.{List, [], _++_}
+use lib.ListN.{length, take, drop}
+use Rattle.causes.specs.Causes.{carriedOut}
+use Rattle.wire.specs.Bytes.{words}
+use Rattle.wire.specs.Lists.{EachBelow, all}
+use Rattle.settings.specs.declared.Settings.{Settings}
+use Rattle.settings.specs.Settings.{slotCount}
+use Rattle.sample_record.specs.Record.{recordGood}
+use Rattle.sort.specs.declared.counts.Counts.{Counts}
+use Rattle.packet.specs.Layout.{packetBytes, totalCount, boxCount, beaconCount}
+use Rattle.packet.specs.Packet.{lastSample, stampOf}
+use Rattle.packet.specs.Ranges.{RateValues, BeaconValues}
+use Rattle.packet.specs.TableSum.{tableSum}
+use Rattle.ground.specs.Ground.{readOf, recordsOf}
+use Rattle.ground.specs.Theorems.{rateRead, sampleRead, beaconRead}
+use Rattle.state.specs.declared.State.{State}
+use Rattle.processor.specs.Close.{samplePackets, outBytes, closeNumber, packetsOf, closeDone}
+
+-- ---- the output in packets
+
+-- "Close writes 13 × 272 bytes": packet k of them, 0 to 12
+abbrev pub packetAt : (out : List ℕ) (k : ℕ) → List ℕ
+packetAt out k = take packetBytes (drop (packetBytes * k) out)
+
+-- "rate (application number 605), samples 606 to 616, beacon 624": where each kind stands
+abbrev pub ratePlace : ℕ
+ratePlace = 0
+
+abbrev pub samplePlace : (p : ℕ) → ℕ
+samplePlace p = p + 1
+
+abbrev pub beaconPlace : ℕ
+beaconPlace = 12
+
+-- the records that the ground reads of sample packets 0 to n - 1, joined in their order
+unfoldable pub recordsRead : (out : List ℕ) (n : ℕ) → List ℕ
+recordsRead out zero = []
+recordsRead out (suc n) = recordsRead out n ++ recordsOf (packetAt out (samplePlace n))
+
+-- ---- what the ground reads
+
+-- an interval, as the close hands it to the packets
+pub record Ended : Type 0 where
+  pub frame : ℕ
+  pub time : ℕ
+  pub totals : List ℕ
+  pub counts : Counts
+  pub settings : Settings
+  pub tables : List ℕ
+  pub slots : List ℕ
+
+-- its thirteen packets
+abbrev pub written : Ended → List ℕ
+written e = packetsOf (e .frame) (e .time) (e .totals) (e .counts) (e .settings) (e .tables) (e .slots)
+
+-- "a packet read back gives its samples and settings exactly, and each rate as its code's least count": the reader accepts all
+-- thirteen, each with its own application number, the time and the frame number
+pub record Received (e : Ended) (out : List ℕ) : Type 0 where
+  pub whole : length out ≡ outBytes
+  -- kind rate: totals and boxes as least counts, the settings, the sum of the tables
+  pub rates : readOf (packetAt out ratePlace)
+      ≡ rateRead (stampOf (e .frame) (e .time) 0) (e .totals) (e .counts .boxes) (e .settings) (tableSum (e .tables))
+  -- kind sample, with its p
+  pub samples : (p : ℕ) → p ≤ lastSample → readOf (packetAt out (samplePlace p)) ≡ sampleRead (stampOf (e .frame) (e .time) p)
+  -- the records of the eleven, joined, are the slots
+  pub records : recordsRead out samplePackets ≡ words (e .slots)
+  -- kind beacon: the beacons as least counts
+  pub beacons : readOf (packetAt out beaconPlace) ≡ beaconRead (stampOf (e .frame) (e .time) 0) (e .counts .beacons)
+
+-- ---- of any thirteen packets whose values are in their ranges
+
+pub record Fits (e : Ended) : Type 0 where
+  pub frame-fits : e .frame < 65536
+  pub time-fits : e .time < 4294967296
+  pub rates-fit : RateValues (e .totals) (e .counts .boxes) (e .settings) (tableSum (e .tables))
+  pub beacons-fit : BeaconValues (e .counts .beacons)
+  pub slots-are : length (e .slots) ≡ slotCount
+  pub slots-fit : EachBelow 4294967296 (e .slots)
+  pub slots-good : all recordGood (e .slots) ≡ true
+
+abbrev pub PacketsReceived : Type 0
+PacketsReceived = (e : Ended) → Fits e → Received e (written e)
+
+-- ---- of every close that is carried out
+
+-- what the types of a close's arguments say, and nothing more: a frame number of 16 bits, a time of 32, an hvstep of 8, slots of 32,
+-- and the lengths of the interval's three arrays
+pub record TypedClose (s : State) (time : ℕ) (slots : List ℕ) : Type 0 where
+  pub frame-fits : s .frame < 65536
+  pub time-fits : time < 4294967296
+  pub hvstep-fits : s .settings .hvstep < 256
+  pub slots-fit : EachBelow 4294967296 slots
+  pub totals-are : length (s .interval .totals) ≡ totalCount
+  pub boxes-are : length (s .interval .counts .boxes) ≡ boxCount
+  pub beacons-are : length (s .interval .counts .beacons) ≡ beaconCount
+
+-- the interval that the state, the tables and the slots hold
+abbrev pub endedBy : State → (time : ℕ) (tables slots : List ℕ) → Ended
+endedBy s time tables slots = record {
+  frame = s .frame;
+  time = time;
+  totals = s .interval .totals;
+  counts = s .interval .counts;
+  settings = s .settings;
+  tables = tables;
+  slots = slots;
+}
+
+abbrev pub CloseReceived : Type 0
+CloseReceived =
+    (s : State) (time : ℕ) (tables staging slots out : List ℕ) → TypedClose s time slots
+    → closeNumber s (length tables) (length staging) slots (length out) ≡ carriedOut
+    → Received (endedBy s time tables slots) (closeDone s time tables staging slots out .out)
