@@ -1,6 +1,7 @@
 -- The ground reads each of the thirteen packets that a close writes, and what the checks of a close passed puts their values in range.
 -- Assumes nothing.
 use mathlib.Core.Path.{_≡_, refl, sym, ap, ap₂, _∙_, subst}
+use mathlib.Core.Bool.{true}
 use mathlib.Core.List.{List, [], _++_, append-assoc, append-nil}
 use Prim.Native.Nat.{ℕ, zero, suc, _+_, _*_, _%_, _≤_, _<_}
 use native.Mathlib.Omega.{arith}
@@ -8,10 +9,11 @@ use borrow.Author.Tests.{eqb-true, eqb-false, leb-true}
 use lib.Dec.{eqb}
 use lib.ListN.{length, take, drop, length-append}
 use lib.Seq.{take-add, take-all}
-use Rattle.causes.specs.Causes.{carriedOut}
 use Rattle.wire.specs.Bytes.{words}
+use Rattle.wire.specs.Lists.{all}
 use Rattle.wire.proofs.Bytes.{length-part}
 use Rattle.wire.proofs.Lists.{decide}
+use Rattle.settings.specs.Settings.{slotCount}
 use Rattle.sample_record.specs.Record.{recordGood}
 use Rattle.packet.specs.Packet.{packetBytes, lastSample, stampOf, ratePacket, samplePacket, beaconPacket}
 use Rattle.packet.specs.Ranges.{StampFits, RateValues, SampleValues, BeaconValues}
@@ -20,9 +22,10 @@ use Rattle.packet.proofs.Written.{length-rate, length-sample, length-beacon}
 use Rattle.ground.specs.Ground.{readOf, recordsOf}
 use Rattle.ground.proofs.Back.{rate-back, sample-back, beacon-back}
 use Rattle.state.specs.declared.State.{State}
+use Rattle.state.specs.Limits.{withinLimits}
 use Rattle.state.proofs.LimitLaws.{state-limits}
-use Rattle.processor.specs.Close.{samplePackets, outBytes, samplesOf, packetsOf, closeNumber, closeDone}
-use Rattle.processor.proofs.CallLaws.{Closes, close-closes}
+use Rattle.processor.specs.Close.{samplePackets, outBytes, samplesOf, packetsOf, closeDone}
+use Rattle.processor.proofs.CallLaws.{close-closes}
 use Rattle.processor.proofs.OutputLaws.{totals-fit, boxes-fit, beacons-fit, length-samples, length-packets}
 use Rattle.downlink.specs.Downlink.{packetAt, samplePlace, recordsRead, Ended, written, Received, Fits, PacketsReceived, TypedClose, endedBy, CloseReceived}
 use Rattle.downlink.proofs.Parts.{packet-at, each-part, all-part, words-append}
@@ -142,11 +145,11 @@ sum-fits : (tables : List ℕ) → tableSum tables < 16777216
 unfolding tableSum
 sum-fits tables = omega arith
 
-close-fits : (s : State) (time : ℕ) (tables slots : List ℕ) → TypedClose s time slots → (staging : ℕ) (out : ℕ)
-    → closeNumber s (length tables) staging slots out ≡ carriedOut → Fits (endedBy s time tables slots)
-close-fits s time tables slots y staging out h =
-    let c = close-closes s (length tables) staging slots out h in
-    let l = state-limits s (c .limits) in
+-- a state within its limits has values in range, where the slots are good
+pub state-fits : (s : State) (time : ℕ) (tables slots : List ℕ) → TypedClose s time slots → withinLimits s ≡ true
+    → length slots ≡ slotCount → all recordGood slots ≡ true → Fits (endedBy s time tables slots)
+state-fits s time tables slots y w ls good =
+    let l = state-limits s w in
     record {
       frame-fits = y .frame-fits;
       time-fits = y .time-fits;
@@ -160,12 +163,13 @@ close-fits s time tables slots y staging out h =
         sum-fits = sum-fits tables;
       };
       beacons-fit = record { beacons-are = y .beacons-are; beacons-fit = beacons-fit (s .interval) (l .interval) };
-      slots-are = c .slots-are;
+      slots-are = ls;
       slots-fit = y .slots-fit;
-      slots-good = c .slots-good;
+      slots-good = good;
     }
 
 pub close-received : CloseReceived
 unfolding closeDone
 close-received s time tables staging slots out y h =
-    rw h (packets-received (endedBy s time tables slots) (close-fits s time tables slots y (length staging) (length out) h))
+    let c = close-closes s (length tables) (length staging) slots (length out) h in
+    rw h (packets-received (endedBy s time tables slots) (state-fits s time tables slots y (c .limits) (c .slots-are) (c .slots-good)))

@@ -1,2 +1,4 @@
 pub mod Parts
 pub mod Closed
+pub mod Ranges
+pub mod Lists

@@ -2,7 +2,7 @@
 use Prim.Native.Nat.{ℕ, zero, suc, _+_, _*_, _≤_, _<_}
 use mathlib.Core.Path.{_≡_}
 use mathlib.Core.Bool.{true}
-use mathlib.Core.List.{List, [], _++_}
+use mathlib.Core.List.{List, [], _∷_, _++_}
 use lib.ListN.{length, take, drop}
 use Rattle.causes.specs.Causes.{carriedOut}
 use Rattle.wire.specs.Bytes.{words}
@@ -11,6 +11,8 @@ use Rattle.settings.specs.declared.Settings.{Settings}
 use Rattle.settings.specs.Settings.{slotCount}
 use Rattle.sample_record.specs.Record.{recordGood}
 use Rattle.sort.specs.declared.counts.Counts.{Counts}
+use Rattle.tables.specs.Tables.{tableBytes}
+use Rattle.load.specs.Staging.{stagingBytes}
 use Rattle.packet.specs.Layout.{packetBytes, totalCount, boxCount, beaconCount}
 use Rattle.packet.specs.Packet.{lastSample, stampOf}
 use Rattle.packet.specs.Ranges.{RateValues, BeaconValues}
@@ -19,6 +21,8 @@ use Rattle.ground.specs.Ground.{readOf, recordsOf}
 use Rattle.ground.specs.Theorems.{rateRead, sampleRead, beaconRead}
 use Rattle.state.specs.declared.State.{State}
 use Rattle.processor.specs.Close.{samplePackets, outBytes, closeNumber, packetsOf, closeDone}
+use Rattle.tally.specs.Calls.{own, Call, event, reading, line, load, close, Reply, answered, echoed, closed, numberOf, World, freshWorld, next, reply, after, Lawful}
+use Rattle.tally.specs.Tally.{Tally, freshTally, countsOf, totalsOf, frameOf, ownSlots, tnext, tafter}
 
 -- ---- the output in packets
 
@@ -115,3 +119,55 @@ CloseReceived =
     (s : State) (time : ℕ) (tables staging slots out : List ℕ) → TypedClose s time slots
     → closeNumber s (length tables) (length staging) slots (length out) ≡ carriedOut
     → Received (endedBy s time tables slots) (closeDone s time tables staging slots out .out)
+
+-- ---- of every list of calls to a fresh processor
+
+-- the interval that the tally keeps, its counts and slots worked out from its events
+abbrev pub endedFor : Tally → (time : ℕ) → Ended
+endedFor t time = record {
+  frame = frameOf t;
+  time = time;
+  totals = totalsOf t;
+  counts = countsOf t;
+  settings = t .settings;
+  tables = t .tables;
+  slots = ownSlots t;
+}
+
+-- the output of a close; no other call has one
+abbrev pub outOf : Reply → List ℕ
+outOf (answered n) = []
+outOf (echoed n echo) = []
+outOf (closed n taken counts filled out) = out
+
+-- a close that is carried out: the ground reads the tally's interval. The time has 32 bits, as its type says
+abbrev pub TallyReceived : Tally → Call → Reply → Type 0
+TallyReceived t (event tables slots e) r = Unit {0}
+TallyReceived t (reading counts) r = Unit {0}
+TallyReceived t (line bytes echo) r = Unit {0}
+TallyReceived t (load bytes staging echo) r = Unit {0}
+TallyReceived t (close time tables staging slots out) r =
+    time < 4294967296 → numberOf r ≡ carriedOut → Received (endedFor t time) (outOf r)
+
+-- of each call of a list, with the tally and the processor as they are before it
+abbrev pub EachReceived : Tally → World → List Call → Type 0
+EachReceived t w [] = Unit {0}
+EachReceived t w (c ∷ cs) = TallyReceived t c (reply w c) × EachReceived (tnext t c) (next w c) cs
+
+-- for every initial tables and staging, and every lawful list of calls
+abbrev pub ListReceived : Type 0
+ListReceived =
+    (tables staging : List ℕ) (cs : List Call) → Lawful (freshWorld tables staging) cs
+    → EachReceived (freshTally tables staging) (freshWorld tables staging) cs
+
+-- a close after any such list, where tables, staging and output have their lengths: carried out, and received
+pub record CarriedDown (t : Tally) (time : ℕ) (r : Reply) : Type 0 where
+  pub carried : numberOf r ≡ carriedOut
+  pub received : Received (endedFor t time) (outOf r)
+
+abbrev pub NextReceived : Type 0
+NextReceived =
+    (tables staging : List ℕ) → length tables ≡ tableBytes → length staging ≡ stagingBytes
+    → (cs : List Call) → Lawful (freshWorld tables staging) cs
+    → (time : ℕ) (out : List ℕ) → time < 4294967296 → length out ≡ outBytes
+    → CarriedDown (tafter (freshTally tables staging) cs) time (reply (after (freshWorld tables staging) cs) (close time own own own out))
