@@ -1,9 +1,9 @@
 -- The ground reads each of the thirteen packets that a close writes, and what the checks of a close passed puts their values in range.
 -- Assumes nothing.
-use mathlib.Core.Path.{_≡_, refl, sym, ap, ap₂, _∙_, subst}
+use mathlib.Core.Path.{_≡_, refl, sym, ap, ap₂, _∙_}
 use mathlib.Core.Bool.{true}
 use mathlib.Core.List.{List, [], _++_, append-assoc, append-nil}
-use Prim.Native.Nat.{ℕ, zero, suc, _+_, _*_, _%_, _≤_, _<_}
+use Prim.Native.Nat.{ℕ, zero, suc, _+_, _*_, _≤_, _<_}
 use native.Mathlib.Omega.{arith}
 use borrow.Author.Tests.{eqb-true, eqb-false, leb-true}
 use lib.Dec.{eqb}
@@ -16,7 +16,7 @@ use Rattle.wire.proofs.Lists.{decide}
 use Rattle.settings.specs.Settings.{slotCount}
 use Rattle.sample_record.specs.Record.{recordGood}
 use Rattle.packet.specs.Packet.{packetBytes, lastSample, stampOf, ratePacket, samplePacket, beaconPacket}
-use Rattle.packet.specs.Ranges.{StampFits, RateValues, SampleValues, BeaconValues}
+use Rattle.packet.specs.Ranges.{StampFits, SampleValues}
 use Rattle.packet.specs.TableSum.{tableSum}
 use Rattle.packet.proofs.Written.{length-rate, length-sample, length-beacon}
 use Rattle.ground.specs.Ground.{readOf, recordsOf}
@@ -27,7 +27,8 @@ use Rattle.state.proofs.LimitLaws.{state-limits}
 use Rattle.processor.specs.Close.{samplePackets, outBytes, samplesOf, packetsOf, closeDone}
 use Rattle.processor.proofs.CallLaws.{close-closes}
 use Rattle.processor.proofs.OutputLaws.{totals-fit, boxes-fit, beacons-fit, length-samples, length-packets}
-use Rattle.downlink.specs.Downlink.{packetAt, samplePlace, recordsRead, Ended, written, Received, Fits, PacketsReceived, TypedClose, endedBy, CloseReceived}
+use Rattle.downlink.specs.Downlink.{packetAt, ratePlace, samplePlace, beaconPlace, recordsRead}
+use Rattle.downlink.specs.Downlink.{Ended, written, Fits, PacketsReceived, TypedClose, endedBy, CloseReceived}
 use Rattle.downlink.proofs.Parts.{packet-at, each-part, all-part, words-append}
 
 -- ---- any thirteen packets whose values are in range
@@ -58,7 +59,9 @@ module _ (e : Ended) (f : Fits e) where
   beacon = beaconPacket (stampOf (e .frame) (e .time) 0) (e .counts .beacons)
 
   rate-length : length rate ≡ packetBytes
-  rate-length = length-rate _ (e .totals) (e .counts .boxes) (e .settings) (tableSum (e .tables)) (f .rates-fit .totals-are) (f .rates-fit .boxes-are)
+  rate-length =
+      length-rate _ (e .totals) (e .counts .boxes) (e .settings) (tableSum (e .tables))
+      (f .rates-fit .totals-are) (f .rates-fit .boxes-are)
 
   slots-length : (p : ℕ) → p ≤ lastSample → length (slotsIn p) ≡ 64
   slots-length p h = length-part (e .slots) (64 * p) 64 (omega (arith, f .slots-are))
@@ -79,7 +82,8 @@ module _ (e : Ended) (f : Fits e) where
       (λ q.
       let s : p ≡ n = eqb-true p n q in
       let t : n ≤ lastSample = omega arith in
-      rw s (packet-at (rate ++ samples n) (sample n) rest (n + 1) (before-length n (omega arith)) (length-sample _ (slotsIn n) (slots-length n t))))
+      let l : length (sample n) ≡ packetBytes = length-sample _ (slotsIn n) (slots-length n t) in
+      rw s (packet-at (rate ++ samples n) (sample n) rest (samplePlace n) (before-length n (omega arith)) l))
       (λ q.
       let s : p ≡ n → ⊥ = eqb-false p n q in
       ap (λ (x : List ℕ). packetAt x (samplePlace p)) (append-assoc (rate ++ samples n) (sample n) rest)
@@ -91,21 +95,21 @@ module _ (e : Ended) (f : Fits e) where
       (f .rates-fit .totals-are) (f .rates-fit .boxes-are) (f .beacons-fit .beacons-are) (f .slots-are)
 
   -- the thirteen places
-  rate-place : packetAt (written e) 0 ≡ rate
+  rate-place : packetAt (written e) ratePlace ≡ rate
   unfolding packetsOf
   rate-place =
-      ap (λ (x : List ℕ). packetAt x 0) (append-assoc rate (samples samplePackets) beacon)
-      ∙ packet-at [] rate (samples samplePackets ++ beacon) 0 refl rate-length
+      ap (λ (x : List ℕ). packetAt x ratePlace) (append-assoc rate (samples samplePackets) beacon)
+      ∙ packet-at [] rate (samples samplePackets ++ beacon) ratePlace refl rate-length
 
   sample-place : (p : ℕ) → p ≤ lastSample → packetAt (written e) (samplePlace p) ≡ sample p
   unfolding packetsOf
   sample-place p h = sample-at samplePackets p (omega arith) (omega arith) beacon
 
-  beacon-place : packetAt (written e) 12 ≡ beacon
+  beacon-place : packetAt (written e) beaconPlace ≡ beacon
   unfolding packetsOf
   beacon-place =
-      ap (λ (x : List ℕ). packetAt x 12) (sym (append-nil (rate ++ samples samplePackets ++ beacon)))
-      ∙ packet-at (rate ++ samples samplePackets) beacon [] 12 (before-length samplePackets (omega arith))
+      ap (λ (x : List ℕ). packetAt x beaconPlace) (sym (append-nil (rate ++ samples samplePackets ++ beacon)))
+      ∙ packet-at (rate ++ samples samplePackets) beacon [] beaconPlace (before-length samplePackets (omega arith))
       (length-beacon _ (e .counts .beacons) (f .beacons-fit .beacons-are))
 
   slots-in-range : (p : ℕ) → p ≤ lastSample → SampleValues (slotsIn p)
@@ -129,14 +133,14 @@ module _ (e : Ended) (f : Fits e) where
 
 pub packets-received : PacketsReceived
 packets-received e f =
-    let none : 0 ≤ 0 = omega arith in
+    let stamped : StampFits 0 (stampOf (e .frame) (e .time) 0) = stamp-fits e f 0 0 (omega arith) in
     let all-slots : length (e .slots) ≤ 64 * samplePackets = omega (arith, f .slots-are) in
     record {
       whole = packets-length e f;
-      rates = ap readOf (rate-place e f) ∙ rate-back _ (e .totals) (e .counts .boxes) (e .settings) _ (stamp-fits e f 0 0 none) (f .rates-fit) .0;
+      rates = ap readOf (rate-place e f) ∙ rate-back _ (e .totals) (e .counts .boxes) (e .settings) _ stamped (f .rates-fit) .0;
       samples = λ p h. ap readOf (sample-place e f p h) ∙ sample-back _ _ (stamp-fits e f p lastSample h) (slots-in-range e f p h) .0;
       records = records-read e f samplePackets (omega arith) ∙ ap words (take-all (64 * samplePackets) (e .slots) all-slots);
-      beacons = ap readOf (beacon-place e f) ∙ beacon-back _ (e .counts .beacons) (stamp-fits e f 0 0 none) (f .beacons-fit) .0;
+      beacons = ap readOf (beacon-place e f) ∙ beacon-back _ (e .counts .beacons) stamped (f .beacons-fit) .0;
     }
 
 -- ---- a close that is carried out

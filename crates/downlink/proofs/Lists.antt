@@ -5,7 +5,7 @@ use Prim.Native.Nat.{ℕ, _<_}
 use native.Mathlib.Omega.{arith}
 use borrow.Author.Tests.{eq-eqb}
 use Rattle.causes.specs.Causes.{carriedOut}
-use Rattle.tally.specs.Calls.{Lent, Call, event, reading, line, load, close, Reply, numberOf, freshWorld, reply, LawfulCall, Lawful}
+use Rattle.tally.specs.Calls.{Lent, Call, event, reading, line, load, close, numberOf, reply, LawfulCall, Lawful}
 use Rattle.tally.specs.Tally.{Tally, freshTally, ownSlots, numberFor, tnext, treply, tafter}
 use Rattle.tally.specs.View.{viewState, view}
 use Rattle.tally.proofs.Invariant.{Inv}
@@ -13,7 +13,7 @@ use Rattle.tally.proofs.Corollaries.{slots-length, slots-good, inv-after, close
 use Rattle.tally.proofs.Replies.{step-reply}
 use Rattle.tally.proofs.Steps.{number-is, step-next}
 use Rattle.tally.proofs.Theorem.{next-inv, next-lawful, fresh-view, fresh-inv}
-use Rattle.downlink.specs.Downlink.{Received, written, endedFor, outOf, TallyReceived, EachReceived, ListReceived, CarriedDown, NextReceived}
+use Rattle.downlink.specs.Downlink.{Received, written, endedFor, outOf, TallyReceived, EachReceived, ListReceived, NextReceived}
 use Rattle.downlink.proofs.Closed.{packets-received, state-fits}
 use Rattle.downlink.proofs.Ranges.{next-fits, tally-typed}
 
@@ -27,7 +27,8 @@ tally-received t v h time ht =
     (state-fits (viewState t) time (t .tables) (ownSlots t) (tally-typed t v h time ht) (v .limits) (slots-length t v) (slots-good t v))
 
 -- what the tally answers to a close that is carried out
-out-is : (t : Tally) (time : ℕ) (tables staging slots : Lent) (out : List ℕ) → numberFor t (close time tables staging slots out) ≡ carriedOut
+out-is : (t : Tally) (time : ℕ) (tables staging slots : Lent) (out : List ℕ)
+    → numberFor t (close time tables staging slots out) ≡ carriedOut
     → outOf (treply t (close time tables staging slots out)) ≡ written (endedFor t time)
 unfolding treply
 out-is t time tables staging slots out z = rw (eq-eqb _ _ z)
@@ -70,7 +71,8 @@ next-received tables staging lt ls cs l time out ht lo =
     let t = freshTally tables staging in
     let v = inv-after cs t (fresh-inv tables staging) (subst (λ w. Lawful w cs) (fresh-view tables staging) l) in
     let q = close-now tables staging lt ls cs l time out lo in
+    let d = tally-received (tafter t cs) v (fits-after cs t (omega arith)) time ht in
     record {
       carried = ap numberOf q;
-      received = subst (Received (endedFor (tafter t cs) time)) (sym (ap outOf q)) (tally-received (tafter t cs) v (fits-after cs t (omega arith)) time ht);
+      received = subst (Received (endedFor (tafter t cs) time)) (sym (ap outOf q)) d;
     }

@@ -1,21 +1,18 @@
 -- Each of the thirteen packets stands at its place of the output, and the sample packets' records, joined, are the slots.
 -- Assumes nothing.
-use mathlib.Core.Path.{_≡_, refl, sym, ap, ap₂, _∙_}
-use mathlib.Core.Bool.{Bool, true, false}
-use mathlib.Core.List.{List, [], _∷_, _++_, append-assoc, append-nil}
+use mathlib.Core.Path.{_≡_, refl, sym, ap₂, _∙_}
+use mathlib.Core.Bool.{Bool, true}
+use mathlib.Core.List.{List, [], _∷_, _++_, append-assoc}
 use Prim.Native.Nat.{ℕ, zero, suc, _+_, _*_, _≤_, _<_}
 use native.Mathlib.Omega.{arith}
-use borrow.Author.Tests.{eqb-true, eqb-false, ltb-true, ltb-false}
-use lib.Dec.{eqb, ltb}
-use lib.ListN.{length, take, drop, getD, length-append, length-take, List·getD-eq-default}
-use lib.Seq.{take-at, drop-at, take-add, getD-take, getD-drop}
-use Rattle.wire.specs.Bytes.{words}
+use borrow.Author.Tests.{ltb-true, ltb-false}
+use lib.Dec.{ltb}
+use lib.ListN.{length, take, drop, length-take, List·getD-eq-default}
+use lib.Seq.{take-at, drop-at, getD-take, getD-drop}
+use Rattle.wire.specs.Bytes.{words, be32}
 use Rattle.wire.specs.Lists.{EachBelow, all}
-use Rattle.wire.specs.Pieces.{runs}
-use Rattle.wire.proofs.Bytes.{length-part}
 use Rattle.wire.proofs.Lists.{and-left, and-right, decide}
 use Rattle.wire.proofs.Pieces.{words-runs, runs-append}
-use Rattle.wire.specs.Bytes.{be32}
 use Rattle.packet.specs.Packet.{packetBytes}
 use Rattle.downlink.specs.Downlink.{packetAt}
 
@@ -24,7 +21,8 @@ use Rattle.downlink.specs.Downlink.{packetAt}
 -- the packet behind k others
 pub packet-at : (before here rest : List ℕ) (k : ℕ) → length before ≡ packetBytes * k → length here ≡ packetBytes
     → packetAt (before ++ here ++ rest) k ≡ here
-packet-at before here rest k lb lh = rw (append-assoc before here rest, drop-at before (here ++ rest) (packetBytes * k) lb) (take-at here rest packetBytes lh)
+packet-at before here rest k lb lh =
+    rw (append-assoc before here rest, drop-at before (here ++ rest) (packetBytes * k) lb) (take-at here rest packetBytes lh)
 
 -- what holds of each number of a list holds of each of a part
 pub each-part : (n : ℕ) (xs : List ℕ) (b m : ℕ) → 0 < n → EachBelow n xs → EachBelow n (take m (drop b xs))
@@ -45,4 +43,6 @@ all-part p (x ∷ xs) (suc b) m h = all-part p xs b m (and-right (p x) (all p xs
 
 -- the words of two lists
 pub words-append : (xs ys : List ℕ) → words xs ++ words ys ≡ words (xs ++ ys)
-words-append xs ys = ap₂ (λ (a b : List ℕ). a ++ b) (words-runs xs) (words-runs ys) ∙ sym (words-runs (xs ++ ys) ∙ runs-append be32 xs ys)
+words-append xs ys =
+    ap₂ (λ (a b : List ℕ). a ++ b) (words-runs xs) (words-runs ys)
+    ∙ sym (words-runs (xs ++ ys) ∙ runs-append be32 xs ys)

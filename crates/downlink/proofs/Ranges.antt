@@ -1,12 +1,12 @@
 -- What the types say of a close's values is so of the tally at every moment: hvstep is a byte, and each record has 32 bits.
 -- Assumes nothing.
-use mathlib.Core.Path.{_≡_, refl}
+use mathlib.Core.Path.{_≡_}
 use mathlib.Core.Bool.{true}
-use mathlib.Core.List.{List, [], _∷_, _++_, map}
+use mathlib.Core.List.{List, [], _∷_, map}
 use Prim.Native.Nat.{ℕ, zero, suc, _-_, _<_}
 use native.Mathlib.Omega.{arith}
-use lib.ListN.{length, getD, replicate}
-use Rattle.wire.specs.Lists.{EachBelow, keep}
+use lib.ListN.{length, replicate}
+use Rattle.wire.specs.Lists.{EachBelow}
 use Rattle.wire.specs.Pieces.{padded}
 use Rattle.wire.proofs.BitLaws.{bit-small}
 use Rattle.wire.proofs.Lists.{choice, each-append, each-zeros}
@@ -96,7 +96,8 @@ slots-below t v =
 
 -- ---- all of them
 
-pub tally-typed : (t : Tally) → Inv t → t .settings .hvstep < 256 → (time : ℕ) → time < 4294967296 → TypedClose (viewState t) time (ownSlots t)
+pub tally-typed : (t : Tally) → Inv t → t .settings .hvstep < 256 → (time : ℕ) → time < 4294967296
+    → TypedClose (viewState t) time (ownSlots t)
 unfolding totalsBy countsBy
 tally-typed t v h time ht = record {
   frame-fits = omega arith;

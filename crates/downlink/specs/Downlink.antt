@@ -21,7 +21,8 @@ use Rattle.ground.specs.Ground.{readOf, recordsOf}
 use Rattle.ground.specs.Theorems.{rateRead, sampleRead, beaconRead}
 use Rattle.state.specs.declared.State.{State}
 use Rattle.processor.specs.Close.{samplePackets, outBytes, closeNumber, packetsOf, closeDone}
-use Rattle.tally.specs.Calls.{own, Call, event, reading, line, load, close, Reply, answered, echoed, closed, numberOf, World, freshWorld, next, reply, after, Lawful}
+use Rattle.tally.specs.Calls.{own, Call, event, reading, line, load, close, Reply, answered, echoed, closed, numberOf}
+use Rattle.tally.specs.Calls.{World, freshWorld, next, reply, after, Lawful}
 use Rattle.tally.specs.Tally.{Tally, freshTally, countsOf, totalsOf, frameOf, ownSlots, tnext, tafter}
 
 -- ---- the output in packets
