@@ -1,4 +1,4 @@
--- What the ground reads of an interval that was closed aboard (document 01, demand 2 and "Packets"). Assumes nothing.
+-- What the ground reads of an interval that was closed aboard (demand 2; document 01, "Packets"). Assumes nothing.
 use Prim.Native.Nat.{ℕ, zero, suc, _+_, _*_, _≤_, _<_}
 use mathlib.Core.Path.{_≡_}
 use mathlib.Core.Bool.{true}
@@ -62,8 +62,9 @@ pub record Ended : Type 0 where
 abbrev pub written : Ended → List ℕ
 written e = packetsOf (e .frame) (e .time) (e .totals) (e .counts) (e .settings) (e .tables) (e .slots)
 
--- "a packet read back gives its samples and settings exactly, and each rate as its code's least count": the reader accepts all
--- thirteen, each with its own application number, the time and the frame number
+-- Demand 2: a packet read back gives its samples and settings exactly, and each rate as its code's least count. "The reader returns
+-- kind, header and frame number, with a rate packet's rates, settings and table sum, a beacon's rates, or p and the record bytes": all
+-- thirteen are accepted, each with its own application number
 pub record Received (e : Ended) (out : List ℕ) : Type 0 where
   pub whole : length out ≡ outBytes
   -- kind rate: totals and boxes as least counts, the settings, the sum of the tables
