@@ -1,3 +1,4 @@
 pub mod CallLaws
 pub mod OutputLaws
 pub mod LimitsKept
+pub mod Lowest

@@ -4,3 +4,4 @@ pub mod Reading
 pub mod Line
 pub mod Package
 pub mod Close
+pub mod Lowest
