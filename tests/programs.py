@@ -10,10 +10,10 @@ import subprocess
 import sys
 import tempfile
 
+from paper import SLOTS, TABLE_BYTES, accepted_echo, echo_buffer, pack, package_echo, refused_echo, with_sum
+
 HERE = os.path.dirname(os.path.abspath(__file__))
 BIN = os.path.abspath(sys.argv[1] if len(sys.argv) > 1 else os.path.join(HERE, "..", "target", "bin"))
-TABLE_BYTES = 62985
-SLOTS = 704
 counts = {"passed": 0, "failed": 0}
 
 
@@ -66,19 +66,15 @@ def packet(body):
 # ---- expected text
 
 def echo(text):
-    return text.ljust(128, b"\0").hex()
+    return echo_buffer(text).hex()
 
 
 def accepted(frame, sequence, text):
-    return "line 0 " + echo(b"%02x%02x %s\r\nSIT> " % (frame % 256, sequence, text))
-
-
-# The address of a package and how many bytes it holds.
-PACKAGE_ECHO = b"binary A:%08x N:%08x OK\r\nSIT> "
+    return "line 0 " + echo(accepted_echo(frame, sequence, text))
 
 
 def refused(number, text):
-    return f"line {number} " + echo(text + b"?\r\nSIT> ")
+    return f"line {number} " + echo(refused_echo(text))
 
 
 def closed(frame, taken, filled, boxes=(), beacons=()):
@@ -187,7 +183,7 @@ SORTED = tables([(CELL, (128 + 60) << 16), (LOW_CELL, 61 << 16), (KLO, 65536)])
 
 
 def record(t, channel, gain, box, priority):
-    return t << 23 | channel << 12 | gain << 9 | box << 1 | priority
+    return pack(t, channel, 0, 0, gain, 0, box, priority)
 
 
 def samples():
@@ -265,7 +261,7 @@ def long_bodies():
     check("replay: bodies of 65,535 bytes", run("replay", line(b" " * 65535) + counted(5, b"\xff\xfd" + bytes(65533)) + packet(bytes(65535)) + event()),
           ["line 4 " + zeros, "package 9 " + zeros, "packet 11", "event 0"])
     check("replay: staging filled", run("replay", package(most) + package(b"") + package(b"a")),
-          ["package 0 " + echo(PACKAGE_ECHO % (0, TABLE_BYTES)), "package 0 " + echo(PACKAGE_ECHO % (TABLE_BYTES, 0)), "package 9 " + echo(PACKAGE_ECHO % (TABLE_BYTES, 0))])
+          ["package 0 " + echo(package_echo(0, TABLE_BYTES)), "package 0 " + echo(package_echo(TABLE_BYTES, 0)), "package 9 " + echo(package_echo(TABLE_BYTES, 0))])
 
 
 # ---- loads
@@ -275,7 +271,7 @@ def loads():
     cell = bytes([128 + 60, 3, 0])
     load = b"load %x 0" % CELL
     stream = event() + package(cell) + line(load) + event() + package(b"a") + line(b"load 0") + close() + event() + line(load) + close()
-    ok = echo(PACKAGE_ECHO % (0, 3))
+    ok = echo(package_echo(0, 3))
     loaded = accepted(0, 0, load)
     output = run("replay", stream)
     check("replay: a load at close", without_packets(output),
@@ -313,8 +309,7 @@ def fault(rate):
     """Byte 259 of a rate packet has no use; the sum is made right again."""
     b = bytearray(rate)
     b[259] += 1
-    b[271] = sum(b[:271]) % 256
-    return bytes(b)
+    return with_sum(b)
 
 
 # ---- the example that README shows
@@ -345,7 +340,7 @@ def pieces():
         answer = accepted(0, k, text) if k < 32 else refused(7, text)
         fits = staged + k <= TABLE_BYTES
         # A package that does not fit leaves the line's echo.
-        placed = "package 0 " + echo(PACKAGE_ECHO % (staged, k)) if fits else "package 9 " + answer[7:]
+        placed = "package 0 " + echo(package_echo(staged, k)) if fits else "package 9 " + answer[7:]
         staged += k if fits else 0
         want += ["event 0", answer, placed, "reading 0" if k < 60 else "reading 3"]
     for n in (1, 3, 131071):

@@ -1,0 +1,516 @@
+"""The rules of document 01, written from the paper alone, for the tests that work out expected outputs.
+
+An interval is kept as the list of its events, as in "The tally of demand 3": counts, slots and packets are worked out
+from that list when it is closed. Sentences in quotes are the paper's.
+"""
+import re
+from dataclasses import dataclass, field, replace
+from typing import NamedTuple
+
+TABLE_BYTES = 62985
+SLOTS = 704
+BOXES = 116
+BEACONS = 12
+
+
+def put_numbers(numbers, size):
+    # "Multi-byte numbers go most significant byte first."
+    return b"".join(n.to_bytes(size, "big") for n in numbers)
+
+
+def get_numbers(data, size):
+    return [int.from_bytes(data[i:i + size], "big") for i in range(0, len(data), size)]
+
+
+# ---- "The lookup tables"
+
+HIGH_ENERGY, LOW_ENERGY, MATRIX, TIME_OF_FLIGHT = 0x7000, 0x7800, 0x8000, 0xC000
+K_HIGH, K_LOW, K_TOF = 0xC200, 0xC201, 0xC202
+FIRST_WORD, LAST_WORD = HIGH_ENERGY, K_TOF
+
+
+def word_at(tables, address):
+    # "word address a is at byte 3 × (a − 7000 hex)"
+    at = 3 * (address - FIRST_WORD)
+    return int.from_bytes(tables[at:at + 3], "big")
+
+
+def table_sum(tables):
+    # "sum of all table words modulo 2^24"
+    return sum(get_numbers(tables, 3)) % 2**24
+
+
+# ---- "One event"
+
+@dataclass(frozen=True)
+class Settings:
+    # "Fresh: .. LIMHI 500, all other settings 0."
+    limhi: int = 500
+    eonly: int = 0
+    toferror: int = 0
+    junk: int = 0
+    hv: int = 0
+    hvstep: int = 0
+
+
+class Event(NamedTuple):
+    """The flag byte is that of the program "minute": FLG0 1, FLG1 2, error 4, valid stop 8."""
+    t: int
+    high: int
+    low: int
+    flags: int
+
+    def flag(self, value):
+        return int(self.flags & value != 0)
+
+
+FLG0, FLG1, ERROR, VALID_STOP = 1, 2, 4, 8
+
+
+def in_range(e):
+    # "time-of-flight channel t 0 to 511, high channel 0 to 4095, low channel 0 to 2047"; "a flag byte over 15 is refused".
+    return e.t <= 511 and e.high <= 4095 and e.low <= 2047 and e.flags <= 15
+
+
+class Sorted(NamedTuple):
+    """What rules 1 to 5 make of an event: its own box, its priority, the beacon (0 for none), every box that counts."""
+    box: int
+    priority: int
+    beacon: int
+    boxes: tuple
+
+
+def mass_column(u):
+    # "f_m = floor(9u / 32,768)". Python's // goes towards minus infinity, as the paper's floor.
+    return 9 * u // 32768
+
+
+def energy_column(ktof, tof):
+    # "f_e = floor((Ktof + 360,448 − T) / 4,096)"
+    return (ktof + 360448 - tof) // 4096
+
+
+def gain_of(e):
+    """Rule 2: "High channel ≤ 2047: gain 0 .. Otherwise gain 1"."""
+    return int(e.high > 2047)
+
+
+def channel_of(e):
+    return e.low if gain_of(e) else e.high
+
+
+def columns(tables, e):
+    """Rules 2 and 3: both columns."""
+    energies, offset = (LOW_ENERGY, K_LOW) if gain_of(e) else (HIGH_ENERGY, K_HIGH)
+    energy, k = word_at(tables, energies + channel_of(e)), word_at(tables, offset)
+    tof, ktof = word_at(tables, TIME_OF_FLIGHT + e.t), word_at(tables, K_TOF)
+    return mass_column(energy - k + tof - ktof + 65536), energy_column(ktof, tof)
+
+
+def discarded(settings, e):
+    """Rule 1: "No valid stop with Eonly 0, or error set with toferror 0"."""
+    return (not e.flag(VALID_STOP) and not settings.eonly) or (e.flag(ERROR) and not settings.toferror)
+
+
+def sort_event(settings, tables, e):
+    """Rules 1 to 5."""
+    if discarded(settings, e):
+        return Sorted(5, 0, 0, (5,))
+    gain_box = 3 + gain_of(e)
+    f_m, f_e = columns(tables, e)
+    if not (0 <= f_m <= 127 and 0 <= f_e <= 127):
+        return Sorted(6, 0, 0, (gain_box, 6))
+    first, second, _ = word_at(tables, MATRIX + 128 * f_m + f_e).to_bytes(3, "big")
+    # "Its box b is used if 7 to 116, else 7."
+    box = first % 128 if 7 <= first % 128 <= BOXES else 7
+    priority = first // 128
+    beacon = second if second <= BEACONS else 0
+    return Sorted(box, priority, beacon, (1 + priority, gain_box, box))
+
+
+def eligible(settings, s):
+    # "boxes 8 to 116 are eligible; boxes 6 and 7 only with junk 1"
+    return s.box >= 8 or s.box in (6, 7) and settings.junk == 1
+
+
+def pack(t, channel, flg0, flg1, gain, error, box, priority):
+    # "Record from bit 31 down: t 9 bits, channel used 11, FLG0, FLG1, gain, error, box 7, priority."
+    word = 0
+    for value, bits in ((t, 9), (channel, 11), (flg0, 1), (flg1, 1), (gain, 1), (error, 1), (box, 7), (priority, 1)):
+        word = word << bits | value
+    return word
+
+
+def unpack(word):
+    """The fields of a record, in the order of `pack`."""
+    values = []
+    for bits in (1, 7, 1, 1, 1, 1, 11, 9):
+        values.insert(0, word % 2**bits)
+        word >>= bits
+    return values
+
+
+def record_of(e, s):
+    return pack(e.t, channel_of(e), e.flag(FLG0), e.flag(FLG1), gain_of(e), e.flag(ERROR), s.box, s.priority)
+
+
+def place_samples(samples, limhi):
+    """The used slots and how many were replaced, from (record, priority) of each eligible event in order."""
+    # "the first 704 eligible in order; then, for h from 0, the h-th later one with priority 1 replaces slot h while
+    # h < LIMHI; all others drop out"
+    slots = [record for record, _ in samples[:SLOTS]]
+    later = [record for record, priority in samples[SLOTS:] if priority == 1][:limhi]
+    slots[:len(later)] = later
+    return slots, len(later)
+
+
+# ---- "Commands and loads"
+
+PROMPT = b"SIT> "
+ECHO_BYTES = 128
+MAX_COMMANDS = 32
+# The highest value of each setting's argument.
+HIGHEST = {b"limhi": 0x2C0, b"eonly": 1, b"toferror": 1, b"junk": 1, b"hv": 1, b"hvstep": 0xFF}
+
+
+def line_bytes_right(line):
+    # "A line has up to 80 bytes, each 32 to 126"
+    return len(line) <= 80 and all(32 <= b <= 126 for b in line)
+
+
+def words_of_load(y, reach):
+    # "y 0 three bytes a word, y 1 one .., y 2 two .., a short last word filled with zeros behind"
+    return -(-reach // (3, 1, 2)[y])
+
+
+def load_lawful(a, y, reach):
+    # "It needs reach ≥ 1 and all words in 7000 to C202"
+    return y <= 2 and reach >= 1 and FIRST_WORD <= a and a + words_of_load(y, reach) - 1 <= LAST_WORD
+
+
+def parse(line, reach):
+    """A line that is not empty: a tuple of its keyword and values; None for an unknown keyword or a wrong argument."""
+    keyword, *digits = line.split(b" ")
+    if not all(re.fullmatch(b"[0-9a-f]{1,6}", d) for d in digits):
+        return None
+    values = [int(d, 16) for d in digits]
+    if keyword in HIGHEST:
+        right = len(values) == 1 and values[0] <= HIGHEST[keyword]
+    elif keyword == b"load":
+        right = values == [0] or len(values) == 2 and load_lawful(*values, reach)
+    elif keyword == b"loadat":
+        right = len(values) == 1 and values[0] <= reach
+    else:
+        right = False
+    return (keyword.decode(), *values) if right else None
+
+
+def accepted_echo(frame, sequence, line):
+    # "low frame byte and sequence number as two digits 0-9 a-f each, a space, the line, CR LF, "SIT> ""
+    return b"%02x%02x %s\r\n" % (frame % 256, sequence, line) + PROMPT
+
+
+def refused_echo(line):
+    # "Refused by 5, 6 or 7: the line, "?", CR LF, "SIT> ""
+    return line + b"?\r\n" + PROMPT
+
+
+def package_echo(address, placed):
+    return b"binary A:%08x N:%08x OK\r\n" % (address, placed) + PROMPT
+
+
+def sum_error_echo(address, placed, received, computed):
+    # ""ckserr" with received and computed sum for OK, eight digits 0-9 a-f each"
+    return b"binary A:%08x N:%08x ckserr %08x %08x\r\n" % (address, placed, received, computed) + PROMPT
+
+
+def echo_buffer(text):
+    # "The echo buffer has 128 bytes, zero after the echo."
+    return text.ljust(ECHO_BYTES, b"\0")
+
+
+def split_package(data):
+    """The bytes and the received sum: "A package is a 16-bit N, then N − 2 bytes, then their sum modulo 65,536"."""
+    return data[2:-2], int.from_bytes(data[-2:], "big")
+
+
+def judge_package(data, address):
+    """Causes 8, 9 and 10 of a package that comes when the next address is `address`."""
+    n = int.from_bytes(data[:2], "big")
+    if len(data) < 2 or n < 2 or len(data) != 2 + n:
+        return 8
+    body, received = split_package(data)
+    if address + len(body) > TABLE_BYTES:
+        return 9
+    return 0 if sum(body) % 65536 == received else 10
+
+
+def run_load(tables, staging, a, y, reach):
+    """Changes the tables: "load a y packs the reach"."""
+    size = (3, 1, 2)[y]
+    packed = b""
+    for at in range(0, reach, size):
+        # The reach may end within the last word.
+        packed += bytes(3 - size) + staging[at:min(at + size, reach)].ljust(size, b"\0")
+    start = 3 * (a - FIRST_WORD)
+    tables[start:start + len(packed)] = packed
+
+
+# ---- "Packets"
+
+PACKET_BYTES = 272
+SAMPLE_PACKETS = 11
+RATE, FIRST_SAMPLE, BEACON = 605, 606, 624
+APPLICATIONS = (RATE, *range(FIRST_SAMPLE, FIRST_SAMPLE + SAMPLE_PACKETS), BEACON)
+
+
+def rate_code(n):
+    # "n below 4,096; else 4,096s + floor(n / 2^s), s the least with quotient < 4,096"
+    s = 0
+    while n >> s >= 4096:
+        s += 1
+    return 4096 * s + (n >> s)
+
+
+def least_count(code):
+    # "Its least count is quotient × 2^s." None for a "code with s ≥ 1 and quotient below 2,048 or s above 12".
+    s, quotient = divmod(code, 4096)
+    if s > 12 or s >= 1 and quotient < 2048:
+        return None
+    return quotient << s
+
+
+def packet_header(application, frame, time):
+    # "version 0, type 0, secondary flag 1, sequence flags 3, count frame modulo 16,384, length 265; then time (4 bytes)
+    # and a zero"
+    return put_numbers([1 << 11 | application, 3 << 14 | frame % 16384, 265], 2) + time.to_bytes(4, "big") + b"\0"
+
+
+def packet(application, frame, time, parts):
+    """A packet with each (place, bytes) of `parts`: "Other bytes are zero"."""
+    data = bytearray(PACKET_BYTES)
+    for at, part in [(0, packet_header(application, frame, time)), (267, frame.to_bytes(2, "big")), *parts]:
+        data[at:at + len(part)] = part
+    return with_sum(data)
+
+
+def with_sum(data):
+    # "Byte 271 is the sum of bytes 0 to 270 modulo 256."
+    return bytes(data[:271]) + bytes([sum(data[:271]) % 256])
+
+
+def codes(counts):
+    return put_numbers(map(rate_code, counts), 2)
+
+
+def rate_packet(frame, time, totals, boxes, s, total_of_tables):
+    flags = 128 * s.hv + 64 * s.eonly + 32 * s.toferror + 16 * s.junk
+    return packet(RATE, frame, time, [
+        (11, codes(totals)), (27, codes(boxes)), (260, bytes([s.hvstep, flags])),
+        (262, s.limhi.to_bytes(2, "big")), (264, total_of_tables.to_bytes(3, "big"))])
+
+
+def sample_packet(frame, time, p, records):
+    return packet(FIRST_SAMPLE + p, frame, time, [(11, put_numbers(records, 4)), (269, bytes([p]))])
+
+
+def beacon_packet(frame, time, beacons):
+    return packet(BEACON, frame, time, [(11, codes(beacons))])
+
+
+# ---- the ground reader
+
+@dataclass
+class Packet:
+    """What the reader returns: "kind, header and frame number, with a rate packet's rates, settings and table sum, a
+    beacon's rates, or p and the record bytes". A refused packet has its number alone."""
+    number: int = 0
+    kind: str = "none"
+    application: int = 0
+    sequence: int = 0
+    time: int = 0
+    frame: int = 0
+    sum: int = 0
+    p: int = 0
+    settings: Settings = Settings(limhi=0)
+    rates: list = field(default_factory=lambda: [0] * (8 + BOXES))
+    beacons: list = field(default_factory=lambda: [0] * BEACONS)
+    records: bytes = b""
+
+
+def has_header(data):
+    """Cause 11: "no header above (any sequence count passes)"."""
+    if len(data) != PACKET_BYTES:
+        return False
+    application, frame = get_numbers(data[:4], 2)
+    time = int.from_bytes(data[6:10], "big")
+    return application % 2048 in APPLICATIONS and data[:11] == packet_header(application % 2048, frame, time)
+
+
+def read_rate(data, answer):
+    """Whether the body has no fault; the answer's fields are filled in."""
+    answer.kind = "rate"
+    answer.rates = [least_count(c) for c in get_numbers(data[11:259], 2)]
+    hv, eonly, toferror, junk = (data[261] >> bit & 1 for bit in (7, 6, 5, 4))
+    answer.settings = Settings(int.from_bytes(data[262:264], "big"), eonly, toferror, junk, hv, data[260])
+    answer.sum = int.from_bytes(data[264:267], "big")
+    unused = [data[259], data[261] % 16, data[269], data[270]]
+    return None not in answer.rates and not any(unused) and answer.settings.limhi <= SLOTS
+
+
+def read_sample(data, answer):
+    answer.kind = "sample"
+    answer.p, answer.records = data[269], data[11:267]
+    # "a non-zero record with box outside 6 to 116"
+    boxes = [unpack(w)[6] for w in get_numbers(answer.records, 4) if w != 0]
+    return data[270] == 0 and answer.application == FIRST_SAMPLE + answer.p and all(6 <= b <= BOXES for b in boxes)
+
+
+def read_beacon(data, answer):
+    answer.kind = "beacon"
+    answer.beacons = [least_count(c) for c in get_numbers(data[11:35], 2)]
+    return None not in answer.beacons and not any(data[35:267]) and not any(data[269:271])
+
+
+def read_packet(data):
+    """The ground reader: causes 11, 12 and 13, or the packet's fields."""
+    if not has_header(data):
+        return Packet(11)
+    if data != with_sum(data):
+        return Packet(12)
+    first, count = get_numbers(data[:4], 2)
+    answer = Packet(application=first % 2048, sequence=count % 16384, time=int.from_bytes(data[6:10], "big"),
+                    frame=int.from_bytes(data[267:269], "big"))
+    read_body = {RATE: read_rate, BEACON: read_beacon}.get(answer.application, read_sample)
+    return answer if read_body(data, answer) else Packet(13)
+
+
+# ---- the five calls
+
+class Closed(NamedTuple):
+    """The ended frame; "the taken count, 116 boxes, 12 beacons and filled slots"; the packets."""
+    frame: int
+    taken: int
+    filled: int
+    boxes: list
+    beacons: list
+    packets: list
+
+
+class Processor:
+    """The calls on a fresh processor. Each answers its number, the lowest that applies."""
+
+    def __init__(self, tables):
+        self.tables = bytearray(tables)
+        self.staging = bytearray(TABLE_BYTES)
+        self.echo = bytes(ECHO_BYTES)
+        self.settings = Settings()
+        self.frame = self.next = self.reach = 0
+        self.begin()
+
+    def begin(self):
+        # "events, readings and accepted commands are none again"
+        self.events, self.readings, self.waiting, self.accepted = [], [], [], 0
+
+    def event(self, e):
+        if not in_range(e):
+            return 2
+        if len(self.events) == 1000000:
+            return 3
+        self.events.append(e)
+        return 0
+
+    def reading(self, counts):
+        if len(self.readings) == 60:
+            return 3
+        self.readings.append(counts)
+        return 0
+
+    def line(self, line):
+        if not line_bytes_right(line):
+            return 4
+        if not line:
+            self.echo = echo_buffer(PROMPT)
+            return 0
+        command = parse(line, self.reach)
+        number = self.judge(command)
+        if number == 0:
+            self.echo = echo_buffer(accepted_echo(self.frame, self.accepted, line))
+            self.accept(command)
+        else:
+            self.echo = echo_buffer(refused_echo(line))
+        return number
+
+    def judge(self, command):
+        """Causes 5, 6 and 7."""
+        if command is None:
+            return 5
+        if command[0] in ("load", "loadat") and self.load_waits():
+            return 6
+        return 7 if self.accepted == MAX_COMMANDS else 0
+
+    def load_waits(self):
+        return any(c[0] == "load" for c in self.waiting)
+
+    def accept(self, command):
+        # "Carried out when accepted: load 0 .., loadat a"; all others wait until close.
+        self.accepted += 1
+        if command == ("load", 0):
+            self.next = self.reach = 0
+        elif command[0] == "loadat":
+            self.next = command[1]
+        else:
+            self.waiting.append(command)
+
+    def package(self, data):
+        number = 6 if self.load_waits() else judge_package(data, self.next)
+        if number in (0, 10):
+            body, received = split_package(data)
+            echo = package_echo(self.next, len(body)) if number == 0 else \
+                sum_error_echo(self.next, len(body), received, sum(body) % 65536)
+            self.echo = echo_buffer(echo)
+            self.place(body)
+        return number
+
+    def place(self, body):
+        # "Bytes go to the next address, which moves past them, reach too."
+        self.staging[self.next:self.next + len(body)] = body
+        self.next += len(body)
+        self.reach = max(self.reach, self.next)
+
+    def close(self, time):
+        # "Packets come from the ending interval's settings and tables; then waiting commands run in order"
+        outcomes = [sort_event(self.settings, self.tables, e) for e in self.events]
+        put = [b for s in outcomes for b in s.boxes]
+        boxes = [put.count(b) for b in range(1, BOXES + 1)]
+        beacons = [sum(s.beacon == b for s in outcomes) for b in range(1, BEACONS + 1)]
+        slots = self.slots(outcomes)
+        packets = self.packets(time, boxes, beacons, slots)
+        answer = Closed(self.frame, len(self.events), sum(w != 0 for w in slots), boxes, beacons, packets)
+        for command in self.waiting:
+            self.run(command)
+        self.frame = (self.frame + 1) % 65536
+        self.begin()
+        return answer
+
+    def slots(self, outcomes):
+        """The 704 slots: "A zero slot is empty"."""
+        samples = [(record_of(e, s), s.priority) for e, s in zip(self.events, outcomes) if eligible(self.settings, s)]
+        used, _ = place_samples(samples, self.settings.limhi)
+        return used + [0] * (SLOTS - len(used))
+
+    def packets(self, time, boxes, beacons, slots):
+        # "rate (application number 605), samples 606 to 616, beacon 624"
+        totals = [sum(r[k] for r in self.readings) for k in range(8)]
+        rate = rate_packet(self.frame, time, totals, boxes, self.settings, table_sum(self.tables))
+        samples = [sample_packet(self.frame, time, p, slots[64 * p:64 * p + 64]) for p in range(SAMPLE_PACKETS)]
+        return [rate, *samples, beacon_packet(self.frame, time, beacons)]
+
+    def run(self, command):
+        keyword, *values = command
+        if keyword == "load":
+            run_load(self.tables, self.staging, *values, self.reach)
+            # "Both addresses are 0 once it has run."
+            self.next = self.reach = 0
+        else:
+            self.settings = replace(self.settings, **{keyword: values[0]})
