@@ -5,10 +5,16 @@ but for one: `example` holds the program to what README shows, which the second 
 
 Prints each case that fails and what differs. The last line is 'N passed, M failed'.
 """
+import contextlib
+import errno
 import os
+import select
+import signal
 import subprocess
 import sys
 import tempfile
+import time
+import tty
 
 from paper import SLOTS, TABLE_BYTES, accepted_echo, echo_buffer, pack, package_echo, refused_echo, with_sum
 
@@ -90,8 +96,9 @@ def closed(frame, taken, filled, boxes=(), beacons=()):
 
 # ---- running
 
-def run(program, stdin, data=tables(), pieces=None):
-    """What the program prints. data: the bytes of tables.bin, or None for no file, or "folder"."""
+@contextlib.contextmanager
+def folder(data):
+    """A folder to run in. data: the bytes of tables.bin, or None for no file, or "folder"."""
     with tempfile.TemporaryDirectory() as room:
         path = os.path.join(room, "tables.bin")
         if data == "folder":
@@ -99,8 +106,14 @@ def run(program, stdin, data=tables(), pieces=None):
         elif data is not None:
             with open(path, "wb") as f:
                 f.write(data)
+        yield room
+
+
+def run(program, stdin, data=tables(), pieces=None):
+    """What the program prints."""
+    with folder(data) as room:
         if pieces is None:
-            return subprocess.run([BIN + "/" + program], cwd=room, input=stdin, stdout=subprocess.PIPE, check=True).stdout.decode()
+            return subprocess.run([BIN + "/" + program], cwd=room, input=stdin, capture_output=True, check=True).stdout.decode()
         # What it prints goes to a file: a full pipe would stop it while it is still being fed.
         with open(os.path.join(room, "printed"), "w+b") as printed:
             with subprocess.Popen([BIN + "/" + program], cwd=room, stdin=subprocess.PIPE, stdout=printed, bufsize=0) as p:
@@ -112,6 +125,30 @@ def run(program, stdin, data=tables(), pieces=None):
                 p.stdin.close()
             printed.seek(0)
             return printed.read().decode()
+
+
+def run_on(program, data=tables(), **streams):
+    """What the program prints and what it tells on standard error, on streams of any kind; and how it ended."""
+    streams.setdefault("stdout", subprocess.PIPE)
+    with folder(data) as room:
+        done = subprocess.run([BIN + "/" + program], cwd=room, stderr=subprocess.PIPE, check=False, timeout=60, **streams)
+    return (done.stdout or b"").decode(), done.stderr.decode(), done.returncode
+
+
+def told(program, what, number):
+    """The line on standard error of a program that could not do this."""
+    return f"{BIN}/{program}: cannot {what}: errno {number}"
+
+
+def lines_now(pipe, n, seconds=10):
+    """The next n lines of a pipe, or as many as come within the time."""
+    text, end = b"", time.monotonic() + seconds
+    while text.count(b"\n") < n and select.select([pipe], [], [], max(0, end - time.monotonic()))[0]:
+        more = os.read(pipe.fileno(), 65536)
+        if not more:
+            break
+        text += more
+    return text.decode()
 
 
 def check(name, got, want):
@@ -349,7 +386,101 @@ def pieces():
     check("replay: a cut stream", run("replay", stream[:-1], pieces=[4096] * 10), want[:-1] + ["bad record"])
 
 
-for case in (start_and_end, ranges, million, samples, readings, commands, zero_bytes, long_bodies, loads, packets, example, frames, pieces):
+def pieces_of_minute():
+    """The same of minute: 300 closes, each after as many events as its frame's number, all discarded."""
+    stream = b"".join(event(flags=0) * k + filled_line(b"hvstep 1") + close() for k in range(300))
+    for n in (1, 3, 131071):
+        check(f"minute: pieces of {n}", run("minute", stream, pieces=[n] * min(3000, len(stream) // n)), [f"{k} {k} {k} 0 0 0" for k in range(300)])
+
+
+# ---- standard input that is held open, reads and writes that fail
+
+PROGRAMS = ("minute", "replay")
+# An event that is discarded, and the close after it.
+INTERVAL = event(flags=0) + close()
+
+
+def interval(program, frame):
+    """What an interval prints, and how many lines of packets follow."""
+    if program == "minute":
+        return [f"{frame} 1 1 0 0 0"], 0
+    return ["event 0"] + closed(frame, 1, 0, [(5, 1)]), 13
+
+
+def held_open():
+    """A line comes when its call is carried out, while the input is held open, also behind a part of the next record."""
+    for program in PROGRAMS:
+        # Each piece ends with the first bytes of the record behind it.
+        for cut in (0, 1, 5):
+            next_bytes = event(flags=0)[:cut]
+            with folder(tables()) as room, subprocess.Popen([BIN + "/" + program], cwd=room, stdin=subprocess.PIPE, stdout=subprocess.PIPE, bufsize=0) as p:
+                for frame in range(3):
+                    p.stdin.write((INTERVAL if frame == 0 else INTERVAL[cut:]) + next_bytes)
+                    want, more = interval(program, frame)
+                    got = lines_now(p.stdout, len(want) + more)
+                    check(f"{program}: held open, cut at {cut}, close {frame}", without_packets(got), want)
+                p.stdin.write(event(flags=16)[cut:])
+                want = ["refused 2"] if program == "minute" else ["event 2"]
+                check(f"{program}: held open, cut at {cut}, refusal", lines_now(p.stdout, 1), want)
+                p.stdin.close()
+                check(f"{program}: held open, cut at {cut}, end", p.stdout.read().decode(), [])
+
+
+def failed_reads():
+    """A read that fails is told on standard error. What was carried out before it is printed, and no bad record."""
+    for program in PROGRAMS:
+        with tempfile.TemporaryDirectory() as room:
+            descriptor = os.open(room, os.O_RDONLY)
+            printed, line, _ = run_on(program, stdin=descriptor)
+            os.close(descriptor)
+        check(f"{program}: standard input is a folder", printed + line, [told(program, "read standard input", errno.EISDIR)])
+        # The controlling side of a terminal fails once the other side is closed and its bytes are read.
+        descriptor, other = os.openpty()
+        tty.setraw(other)
+        os.write(other, INTERVAL + event()[:3])
+        os.close(other)
+        printed, line, _ = run_on(program, stdin=descriptor)
+        os.close(descriptor)
+        check(f"{program}: standard input fails within a record, printed", without_packets(printed), interval(program, 0)[0])
+        check(f"{program}: standard input fails within a record, told", line, [told(program, "read standard input", errno.EIO)])
+        printed, line, _ = run_on(program, data="folder", input=INTERVAL)
+        check(f"{program}: tables.bin is a folder", printed + line, ["refused 1", told(program, "read tables.bin", errno.EISDIR)])
+
+
+def failed_writes():
+    """A write that fails is told on standard error, once. A reader that has closed the pipe is not."""
+    for program in PROGRAMS:
+        for what, stream, data in (("one close", INTERVAL, tables()), ("more text than one write holds", event(512) * 200000, tables()), ("no tables.bin", b"", None)):
+            with open("/dev/full", "wb") as full:
+                _, line, _ = run_on(program, data, input=stream, stdout=full)
+            check(f"{program}: /dev/full, {what}", line, [told(program, "write standard output", errno.ENOSPC)])
+        with open("/dev/full", "wb") as full:
+            _, line, status = run_on(program, input=b"", stdout=full)
+        check(f"{program}: /dev/full, nothing to print", line + f"{status}\n", ["0"])
+        for what, ignored in (("", False), (", its signal ignored", True)):
+            out, pipe = os.pipe()
+            os.close(out)
+            ignore = (lambda: signal.signal(signal.SIGPIPE, signal.SIG_IGN)) if ignored else None
+            _, line, status = run_on(program, input=INTERVAL, stdout=pipe, preexec_fn=ignore)
+            os.close(pipe)
+            check(f"{program}: nobody reads{what}", line + f"{status}\n", [str(0 if ignored else -signal.SIGPIPE)])
+
+
+def interrupted():
+    """Reads and writes that a signal interrupts, and that move three bytes at most, change nothing."""
+    with tempfile.TemporaryDirectory() as room:
+        library = os.path.join(room, "libinterrupts.so")
+        subprocess.run(["rustc", "-O", "--crate-type", "cdylib", "-o", library, os.path.join(HERE, "interrupts.rs")], check=True)
+        for program in PROGRAMS:
+            printed, line, status = run_on(program, input=INTERVAL * 2 + b"\xff", env=dict(os.environ, LD_PRELOAD=library))
+            want = interval(program, 0)[0] + interval(program, 1)[0] + ["bad record", "0"]
+            check(f"{program}: interrupted, three bytes at a time", without_packets(printed) + line + f"{status}\n", want)
+            printed, line, _ = run_on(program, None, input=INTERVAL, env=dict(os.environ, LD_PRELOAD=library))
+            check(f"{program}: interrupted, no tables.bin", printed + line, ["refused 1"])
+
+
+for case in (start_and_end, ranges, million, samples, readings, commands, zero_bytes, long_bodies, loads, packets, example, frames, pieces,
+             pieces_of_minute, held_open, failed_reads, failed_writes, interrupted):
     case()
 print(f"{counts['passed']} passed, {counts['failed']} failed")
 sys.exit(counts["failed"] != 0)

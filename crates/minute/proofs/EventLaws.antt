@@ -46,7 +46,7 @@ module _ (s : State) (tables slots bytes : List ℕ) where
 
   pub events-more : (used : ℕ) (after : State) (left body : List ℕ) → EventsRun s tables slots bytes used after left
       → getD bytes used 0 ≡ 1 → body ≡ take 7 (drop (used + 1) bytes)
-      → EventsRun s tables slots bytes (used + 8) (recordDone after tables left body .answer .state) (recordDone after tables left body .slots)
+      → let d = recordDone after tables left body in EventsRun s tables slots bytes (used + 8) (d .answer .state) (d .slots)
   unfolding ranOf
   events-more used after left body r k e =
       let is : body ≡ bodyOf bytes (r .many) = e ∙ ap (λ (n : ℕ). take 7 (drop (n + 1) bytes)) (r .used-are) in

@@ -87,11 +87,14 @@ fn close(
 ) -> Answer
     requires { ⌜ length (now body) ≡ 4 ⌝ }
     ensures answer { λ r. ⌜ r
-        ≡ closedTo (closeDone state (at32 (now (body .entry)) 0) (now (tables .entry)) (now (staging .entry)) (now (slots .entry)) (zeros outBytes)) .answer ⌝ }
+        ≡ closedTo (closeDone state (at32 (now (body .entry)) 0) (now (tables .entry)) (now (staging .entry)) (now (slots .entry))
+        (zeros outBytes)) .answer ⌝ }
     ensures tables { λ r. ⌜ now (tables .exit)
-        ≡ closeDone state (at32 (now (body .entry)) 0) (now (tables .entry)) (now (staging .entry)) (now (slots .entry)) (zeros outBytes) .tables ⌝ }
+        ≡ closeDone state (at32 (now (body .entry)) 0) (now (tables .entry)) (now (staging .entry)) (now (slots .entry))
+        (zeros outBytes) .tables ⌝ }
     ensures slots { λ r. ⌜ now (slots .exit)
-        ≡ closeDone state (at32 (now (body .entry)) 0) (now (tables .entry)) (now (staging .entry)) (now (slots .entry)) (zeros outBytes) .slots ⌝ }
+        ≡ closeDone state (at32 (now (body .entry)) 0) (now (tables .entry)) (now (staging .entry)) (now (slots .entry))
+        (zeros outBytes) .slots ⌝ }
 {
     let time = wire::read::u32_at(body, 0);
     let mut packets = [0u8; processor::close::OUT_BYTES];

@@ -4,16 +4,16 @@ mod records;
 
 ghost use Rattle.stream.specs.Input.{Held};
 ghost use Rattle.minute.specs.Step.{LiesIn, Stepped};
-use libc::STDOUT_FILENO;
 use state::State;
 use stream::input::Input;
-use stream::record::MOST_RECORDS;
 use stream::record::Next;
 use stream::record::Step;
 use stream::record::bad;
 use stream::record::going_on;
-use stream::record::left;
 use stream::record::stopped;
+use stream::text::OVER;
+use stream::turns::MOST_TURNS;
+use stream::turns::left;
 
 // What was found is carried out.
 fn step(
@@ -63,13 +63,13 @@ fn run(tables: &mut [u8], staging: &[u8], slots: &mut [u32], buffer: &mut [u8], 
     let mut state = state::fresh();
     let mut input = stream::input::none();
     let mut at: usize = 0;
-    let mut records = MOST_RECORDS;
-    while 0 < records {
-        let found = records::next(buffer, input);
+    let mut turns = MOST_TURNS;
+    while 0 < turns {
+        let found = records::next(buffer, input, text, &mut at);
         let done = step(state, found, tables, staging, slots, buffer, text, &mut at);
         state = done.state;
         input = done.input;
-        records = left(records, done.more);
+        turns = left(turns, done.more & (at != OVER));
     }
     stream::text::flush(text, &mut at);
 }
@@ -77,7 +77,7 @@ fn run(tables: &mut [u8], staging: &[u8], slots: &mut [u32], buffer: &mut [u8], 
 fn main() {
     let mut tables = [0u8; tables::TABLE_BYTES];
     if !stream::files::read_tables(&mut tables) {
-        io::write_all(STDOUT_FILENO, b"refused 1\n");
+        stream::text::print(b"refused 1\n");
         return;
     }
     let staging = [0u8; load::staging::STAGING_BYTES];

@@ -20,19 +20,19 @@ fn body_bytes(kind: u8) -> usize
 }
 
 // The record that stands next in the input, its body right behind its kind.
-pub fn next(buffer: &mut [u8], input: Input) -> Next
+pub fn next(buffer: &mut [u8], input: Input, text: &[u8], at: &mut usize) -> Next
     requires { ⌜ Held input (now buffer) ⌝ }
     ensures { λ r. ⌜ FirstOf r (waitingIn input (now (buffer .entry))) (now (buffer .exit)) ⌝ }
 {
-    let one = stream::input::fill(buffer, input, 1);
-    let at = one.at;
-    if one.end == at {
+    let one = stream::input::fill(buffer, input, 1, text, at);
+    let start = one.at;
+    if one.end == start {
         return Next::End;
     }
-    let kind = buffer[at];
+    let kind = buffer[start];
     let n = body_bytes(kind);
     if n == 0 {
         return Next::Bad;
     }
-    stream::record::whole(buffer, one, kind, 1, n)
+    stream::record::whole(buffer, one, kind, 1, n, text, at)
 }

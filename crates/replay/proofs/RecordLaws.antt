@@ -13,7 +13,8 @@ use Rattle.stream.specs.Record.{LongAs, FoundIn, IsOf}
 use Rattle.stream.specs.declared.record.Next.{Next}
 use Rattle.stream.specs.declared.record.Next.the-variants.{End, Bad, Record}
 use Rattle.stream.proofs.InputLaws.{byte-same}
-use Rattle.replay.specs.Record.{isCounted, BodyLong}
+use Rattle.replay.specs.Record.{isCounted, BodyLong, FirstOf}
+use Rattle.replay.specs.Step.{LiesIn}
 
 module _ (kind : ℕ) where
   -- a kind whose body has its length in front is none of those whose body has a length of its own
@@ -44,3 +45,9 @@ counted-body k n (Record kind start from rest) i b buffer t h g e q f =
     rw (add-assoc start 1 1, add-assoc (i .at) 1 1) (same 2 (omega arith)) in
     let is : isCounted kind ≡ true = ap isCounted (q .0) ∙ t in
     (rw is (q .1), counted-long kind _ is, λ _. q .2 ∙ e ∙ rw (first, second))
+
+-- the record that stands first lies in the buffer
+pub first-lies : (r : Next) (old buffer : List ℕ) → FirstOf r old buffer → LiesIn r buffer
+first-lies End old buffer f = tt
+first-lies Bad old buffer f = tt
+first-lies (Record kind start from rest) old buffer f = (f .0 .1, f .0 .2, f .1 .1)

@@ -1,2 +1,4 @@
 -- What the contracts of replay cite.
 pub mod Record
+pub mod Calls
+pub mod Step

@@ -1,9 +1,16 @@
 // The calls, each with its answer printed.
 ghost use mathlib.Core.Path.{_≡_};
 ghost use lib.ListN.{length};
-ghost use Rattle.stream.specs.Record.{LongAs};
+ghost use Rattle.wire.specs.Bytes.{zeros, at32};
+ghost use Rattle.processor.specs.Close.{outBytes, closeDone};
+ghost use Rattle.processor.specs.Line.{lineDone};
+ghost use Rattle.processor.specs.Package.{packageDone};
+ghost use Rattle.processor.specs.Reading.{readingDone};
+ghost use Rattle.stream.specs.Record.{LongAs, countsIn, recordDone};
+ghost use Rattle.replay.specs.Calls.{carriedOut};
 use crate::packets::print_packet;
 use crate::records::PACKAGE;
+use processor::Answer;
 use processor::close::Closed;
 use sort::counts::Counts;
 use state::State;
@@ -15,24 +22,27 @@ fn event(
     body: &[u8],
     text: &mut [u8],
     at: &mut usize,
-) -> State
+) -> Answer
     requires { ⌜ length (now body) ≡ 7 ⌝ }
+    ensures answer { λ r. ⌜ r ≡ recordDone state (now (tables .entry)) (now (slots .entry)) (now (body .entry)) .answer ⌝ }
+    ensures slots { λ r. ⌜ now (slots .exit) ≡ recordDone state (now (tables .entry)) (now (slots .entry)) (now (body .entry)) .slots ⌝ }
 {
     let answer = stream::record::event(state, tables, slots, body);
     stream::text::bytes(text, at, b"event");
     stream::text::number(text, at, answer.number as u64);
     stream::text::line_end(text, at);
-    answer.state
+    answer
 }
 
-fn reading(state: State, body: &[u8], text: &mut [u8], at: &mut usize) -> State
+fn reading(state: State, body: &[u8], text: &mut [u8], at: &mut usize) -> Answer
     requires { ⌜ length (now body) ≡ 16 ⌝ }
+    ensures { λ r. ⌜ r ≡ readingDone state (countsIn (now (body .entry))) ⌝ }
 {
     let answer = stream::record::reading(state, body);
     stream::text::bytes(text, at, b"reading");
     stream::text::number(text, at, answer.number as u64);
     stream::text::line_end(text, at);
-    answer.state
+    answer
 }
 
 // The number and the whole echo buffer.
@@ -43,11 +53,14 @@ fn print_echo(text: &mut [u8], at: &mut usize, number: u8, echo: &[u8]) {
     stream::text::line_end(text, at);
 }
 
-fn line(state: State, echo: &mut [u8], body: &[u8], text: &mut [u8], at: &mut usize) -> State {
+fn line(state: State, echo: &mut [u8], body: &[u8], text: &mut [u8], at: &mut usize) -> Answer
+    ensures answer { λ r. ⌜ r ≡ lineDone state (now (body .entry)) (now (echo .entry)) .answer ⌝ }
+    ensures echo { λ r. ⌜ now (echo .exit) ≡ lineDone state (now (body .entry)) (now (echo .entry)) .echo ⌝ }
+{
     let answer = processor::line::line(state, body, echo);
     stream::text::bytes(text, at, b"line");
     print_echo(text, at, answer.number, echo);
-    answer.state
+    answer
 }
 
 fn package(
@@ -57,11 +70,16 @@ fn package(
     body: &[u8],
     text: &mut [u8],
     at: &mut usize,
-) -> State {
+) -> Answer
+    ensures answer { λ r. ⌜ r ≡ packageDone state (now (body .entry)) (now (staging .entry)) (now (echo .entry)) .answer ⌝ }
+    ensures staging { λ r. ⌜ now (staging .exit)
+        ≡ packageDone state (now (body .entry)) (now (staging .entry)) (now (echo .entry)) .staging ⌝ }
+    ensures echo { λ r. ⌜ now (echo .exit) ≡ packageDone state (now (body .entry)) (now (staging .entry)) (now (echo .entry)) .echo ⌝ }
+{
     let answer = processor::load_package::package(state, body, staging, echo);
     stream::text::bytes(text, at, b"package");
     print_echo(text, at, answer.number, echo);
-    answer.state
+    answer
 }
 
 // A line for the boxes and one for the beacons.
@@ -120,14 +138,23 @@ fn close(
     body: &[u8],
     text: &mut [u8],
     at: &mut usize,
-) -> State
+) -> Closed
     requires { ⌜ length (now body) ≡ 4 ⌝ }
+    ensures answer { λ r. ⌜ r
+        ≡ closeDone state (at32 (now (body .entry)) 0) (now (tables .entry)) (now (staging .entry)) (now (slots .entry))
+        (zeros outBytes) .answer ⌝ }
+    ensures tables { λ r. ⌜ now (tables .exit)
+        ≡ closeDone state (at32 (now (body .entry)) 0) (now (tables .entry)) (now (staging .entry)) (now (slots .entry))
+        (zeros outBytes) .tables ⌝ }
+    ensures slots { λ r. ⌜ now (slots .exit)
+        ≡ closeDone state (at32 (now (body .entry)) 0) (now (tables .entry)) (now (staging .entry)) (now (slots .entry))
+        (zeros outBytes) .slots ⌝ }
 {
     let time = wire::read::u32_at(body, 0);
     let mut packets = [0u8; processor::close::OUT_BYTES];
     let closed = processor::close::close(state, time, tables, staging, slots, &mut packets);
     print_close(text, at, state.frame, closed, &packets);
-    closed.state
+    closed
 }
 
 // One record.
@@ -143,13 +170,28 @@ pub fn carry_out(
     at: &mut usize,
 ) -> State
     requires { ⌜ LongAs kind (length (now body)) ⌝ }
+    ensures state { λ r. ⌜ r
+        ≡ carriedOut kind state (now (tables .entry)) (now (staging .entry)) (now (slots .entry)) (now (echo .entry))
+        (now (body .entry)) .state ⌝ }
+    ensures tables { λ r. ⌜ now (tables .exit)
+        ≡ carriedOut kind state (now (tables .entry)) (now (staging .entry)) (now (slots .entry)) (now (echo .entry))
+        (now (body .entry)) .tables ⌝ }
+    ensures staging { λ r. ⌜ now (staging .exit)
+        ≡ carriedOut kind state (now (tables .entry)) (now (staging .entry)) (now (slots .entry)) (now (echo .entry))
+        (now (body .entry)) .staging ⌝ }
+    ensures slots { λ r. ⌜ now (slots .exit)
+        ≡ carriedOut kind state (now (tables .entry)) (now (staging .entry)) (now (slots .entry)) (now (echo .entry))
+        (now (body .entry)) .slots ⌝ }
+    ensures echo { λ r. ⌜ now (echo .exit)
+        ≡ carriedOut kind state (now (tables .entry)) (now (staging .entry)) (now (slots .entry)) (now (echo .entry))
+        (now (body .entry)) .echo ⌝ }
 {
     match kind {
-        stream::record::EVENT => event(state, tables, slots, body, text, at),
-        stream::record::READING => reading(state, body, text, at),
-        stream::record::LINE => line(state, echo, body, text, at),
-        stream::record::CLOSE => close(state, tables, staging, slots, body, text, at),
-        PACKAGE => package(state, staging, echo, body, text, at),
+        stream::record::EVENT => event(state, tables, slots, body, text, at).state,
+        stream::record::READING => reading(state, body, text, at).state,
+        stream::record::LINE => line(state, echo, body, text, at).state,
+        stream::record::CLOSE => close(state, tables, staging, slots, body, text, at).state,
+        PACKAGE => package(state, staging, echo, body, text, at).state,
         _ => {
             print_packet(text, at, body);
             state

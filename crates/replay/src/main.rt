@@ -4,33 +4,35 @@ mod packets;
 mod records;
 
 ghost use Rattle.stream.specs.Input.{Held};
-use libc::STDOUT_FILENO;
+ghost use Rattle.replay.specs.Step.{LiesIn, Stepped};
 use state::State;
 use stream::input::Input;
-use stream::record::MOST_RECORDS;
 use stream::record::Next;
 use stream::record::Step;
 use stream::record::bad;
 use stream::record::going_on;
-use stream::record::left;
 use stream::record::stopped;
+use stream::text::OVER;
+use stream::turns::MOST_TURNS;
+use stream::turns::left;
 
-// The next record, or the end.
+// What was found is carried out.
 fn step(
     state: State,
-    input: Input,
+    found: Next,
     tables: &mut [u8],
     staging: &mut [u8],
     slots: &mut [u32],
     echo: &mut [u8],
-    buffer: &mut [u8],
+    buffer: &[u8],
     text: &mut [u8],
     at: &mut usize,
 ) -> Step
-    requires { ⌜ Held input (now buffer) ⌝ }
-    ensures { λ r. ⌜ Held (r .input) (now (buffer .exit)) ⌝ }
+    requires { ⌜ LiesIn found (now buffer) ⌝ }
+    ensures input { λ r. ⌜ Held (r .input) (now (buffer .entry)) ⌝ }
+    ensures step { λ r. ⌜ Stepped found state (now (tables .entry)) (now (staging .entry)) (now (slots .entry)) (now (echo .entry))
+        (now (buffer .entry)) r (now (tables .exit)) (now (staging .exit)) (now (slots .exit)) (now (echo .exit)) ⌝ }
 {
-    let found = records::next(buffer, input);
     match found {
         Next::End => stopped(state),
         Next::Bad => bad(state, text, at),
@@ -60,11 +62,12 @@ fn run(
     let mut state = state::fresh();
     let mut input = stream::input::none();
     let mut at: usize = 0;
-    let mut records = MOST_RECORDS;
-    while 0 < records {
+    let mut turns = MOST_TURNS;
+    while 0 < turns {
+        let found = records::next(buffer, input, text, &mut at);
         let done = step(
             state,
-            input,
+            found,
             tables,
             staging,
             slots,
@@ -75,7 +78,7 @@ fn run(
         );
         state = done.state;
         input = done.input;
-        records = left(records, done.more);
+        turns = left(turns, done.more & (at != OVER));
     }
     stream::text::flush(text, &mut at);
 }
@@ -83,7 +86,7 @@ fn run(
 fn main() {
     let mut tables = [0u8; tables::TABLE_BYTES];
     if !stream::files::read_tables(&mut tables) {
-        io::write_all(STDOUT_FILENO, b"refused 1\n");
+        stream::text::print(b"refused 1\n");
         return;
     }
     let mut staging = [0u8; load::staging::STAGING_BYTES];

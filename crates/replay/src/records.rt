@@ -25,38 +25,38 @@ fn is_counted(kind: u8) -> bool
 const COUNTED: usize = 3;
 
 // A record whose body has its length in front, in two bytes.
-fn counted(buffer: &mut [u8], input: Input, kind: u8) -> Next
+fn counted(buffer: &mut [u8], input: Input, kind: u8, text: &[u8], at: &mut usize) -> Next
     requires { ⌜ Held input (now buffer) ⌝ }
     requires { ⌜ isCounted kind ≡ true ⌝ }
     requires { ⌜ (input .at < input .end) × (getD (now buffer) (input .at) 0 ≡ kind) ⌝ }
     ensures { λ r. ⌜ FirstOf r (waitingIn input (now (buffer .entry))) (now (buffer .exit)) ⌝ }
 {
-    let three = stream::input::fill(buffer, input, COUNTED);
-    let at = three.at;
-    if three.end - at < COUNTED {
+    let three = stream::input::fill(buffer, input, COUNTED, text, at);
+    let start = three.at;
+    if three.end - start < COUNTED {
         return Next::Bad;
     }
-    let n = wire::read::u16_at(buffer, at + 1);
-    whole(buffer, three, kind, COUNTED, n as usize)
+    let n = wire::read::u16_at(buffer, start + 1);
+    whole(buffer, three, kind, COUNTED, n as usize, text, at)
 }
 
 // The record that stands next in the input.
-pub fn next(buffer: &mut [u8], input: Input) -> Next
+pub fn next(buffer: &mut [u8], input: Input, text: &[u8], at: &mut usize) -> Next
     requires { ⌜ Held input (now buffer) ⌝ }
     ensures { λ r. ⌜ FirstOf r (waitingIn input (now (buffer .entry))) (now (buffer .exit)) ⌝ }
 {
-    let one = stream::input::fill(buffer, input, 1);
-    let at = one.at;
-    if one.end == at {
+    let one = stream::input::fill(buffer, input, 1, text, at);
+    let start = one.at;
+    if one.end == start {
         return Next::End;
     }
-    let kind = buffer[at];
+    let kind = buffer[start];
     if is_counted(kind) {
-        return counted(buffer, one, kind);
+        return counted(buffer, one, kind, text, at);
     }
     let n = stream::record::fixed_bytes(kind);
     if n == 0 {
         return Next::Bad;
     }
-    whole(buffer, one, kind, 1, n)
+    whole(buffer, one, kind, 1, n, text, at)
 }

@@ -1,4 +1,6 @@
 // The file of tables.
+use crate::input::read_full;
+use crate::transfer::tell;
 
 // Reads `tables.bin` of the current folder; whether it is there and as long as the buffer.
 pub fn read_tables(tables: &mut [u8]) -> bool {
@@ -6,10 +8,14 @@ pub fn read_tables(tables: &mut [u8]) -> bool {
     if fd < 0 {
         return false;
     }
-    let n = io::read_full(fd, tables);
+    let whole = read_full(fd, tables);
     // A longer file has a byte more.
     let mut more = [0u8; 1];
-    let rest = io::read_full(fd, &mut more);
+    let rest = read_full(fd, &mut more);
+    let failed = whole.failed | rest.failed;
+    if failed {
+        tell(b"cannot read tables.bin");
+    }
     libc::close(fd);
-    (n == tables.len()) & (rest == 0)
+    (whole.bytes == tables.len()) & (rest.bytes == 0) & !failed
 }

@@ -35,17 +35,6 @@ pub struct Step {
     pub more: bool,
 }
 
-// Nothing says that the input ends, so a program counts its records down from a number that no run uses up.
-pub const MOST_RECORDS: u64 = u64::MAX;
-
-// How many records are left.
-pub fn left(records: u64, more: bool) -> u64
-    requires { ⌜ 0 < records ⌝ }
-    ensures { λ r. ⌜ r < records ⌝ }
-{
-    if more { records - 1 } else { 0 }
-}
-
 // The program goes on with this input.
 pub fn going_on(state: State, input: Input) -> Step
     ensures { λ r. ⌜ (r .state ≡ state) × (r .input .at ≡ input .at) × (r .input .end ≡ input .end) × (r .more ≡ true) ⌝ }
@@ -106,14 +95,22 @@ pub fn fixed_bytes(kind: u8) -> usize
 }
 
 // The next record, whose body is the n bytes behind its first `head` ones.
-pub fn whole(buffer: &mut [u8], input: Input, kind: u8, head: usize, n: usize) -> Next
+pub fn whole(
+    buffer: &mut [u8],
+    input: Input,
+    kind: u8,
+    head: usize,
+    n: usize,
+    text: &[u8],
+    at: &mut usize,
+) -> Next
     requires { ⌜ Held input (now buffer) ⌝ }
     requires { ⌜ (1 ≤ head) × (head + n ≤ inputBytes) ⌝ }
     requires { ⌜ (input .at < input .end) × (getD (now buffer) (input .at) 0 ≡ kind) ⌝ }
     ensures { λ r. ⌜ FoundIn r (waitingIn input (now (buffer .entry))) (now (buffer .exit)) ⌝ }
     ensures { λ r. ⌜ IsOf kind head n r ⌝ }
 {
-    let filled = crate::input::fill(buffer, input, head + n);
+    let filled = crate::input::fill(buffer, input, head + n, text, at);
     let start = filled.at;
     let end = filled.end;
     if end - start < head + n {

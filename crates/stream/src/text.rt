@@ -1,18 +1,32 @@
 // Text for standard output, gathered in a lent buffer of which the first `at` bytes are filled. A full buffer is
-// written out.
+// written out. Once a read or a write has failed, `at` is OVER: no more text is taken, and no more input read.
+use crate::transfer::tell;
+use crate::transfer::write_all;
 use command::echo::hex_digit;
+use libc::EPIPE;
 use libc::STDOUT_FILENO;
 use wire::bits::wide32;
 
 pub const TEXT_BYTES: usize = 65536;
 
+// Where `at` stands when the run is over: behind any buffer.
+pub const OVER: usize = usize::MAX;
+
+// Writes the bytes to standard output; whether all of them. That nobody reads them any more is not told.
+pub fn print(bytes: &[u8]) -> bool {
+    let printed = write_all(STDOUT_FILENO, bytes);
+    if !printed & (os::errno() != EPIPE) {
+        tell(b"cannot write standard output");
+    }
+    printed
+}
+
 // Writes out what is filled.
 pub fn flush(text: &[u8], at: &mut usize) {
     let n = *at;
     if n <= text.len() {
-        io::write_all(STDOUT_FILENO, &text[..n]);
+        *at = if print(&text[..n]) { 0 } else { OVER };
     }
-    *at = 0;
 }
 
 // One byte.

@@ -1,4 +1,4 @@
--- The input stays within the buffer from record to record, and the records left become fewer.
+-- The input stays within the buffer from record to record, and the turns left become fewer.
 use mathlib.Core.Path.{_≡_}
 use native.Mathlib.Omega.{arith}
 use lib.ListN.{length}
@@ -9,12 +9,12 @@ use Rattle.minute.proofs.run.Statement.{statement}
 use Rattle.minute.proofs.run.Tie as tie
 
 abbrev Inv-loop : tie.InvT-loop
-Inv-loop tables₀ staging slots₀ buffer₀ text₀ state₀ input₀ at₀ records₀ tables slots buffer text state input at records =
+Inv-loop tables₀ staging slots₀ buffer₀ text₀ state₀ input₀ at₀ turns₀ tables slots buffer text state input at turns =
     (length tables ≡ length tables₀) × (length slots ≡ length slots₀) × (length buffer ≡ length buffer₀) × (length text ≡ length text₀)
     × Held input buffer
 
 abbrev μ-loop : tie.MeasureT-loop
-μ-loop tables₀ staging slots₀ buffer₀ text₀ state₀ input₀ at₀ records₀ tables slots buffer text state input at records = records
+μ-loop tables₀ staging slots₀ buffer₀ text₀ state₀ input₀ at₀ turns₀ tables slots buffer text state input at turns = turns
 
 fresh-requires : tie.Need-fresh-requires Inv-loop μ-loop
 fresh-requires c κs = search needs
@@ -35,16 +35,20 @@ step-requires c κs =
     first-lies (n .result) _ (n .last .0) (n .ensures)
 
 left-requires : tie.Need-left-requires Inv-loop μ-loop
-left-requires c κs = search needs
+left-requires c κs =
+    let s = c .before .before .before .before .before .before .before .before .before in
+    let l = s .before .before .before .before .before .before .before .before .before .before .before .before in
+    omega (arith, l .loop-test .taken)
 
 loop-less : tie.Need-loop-less Inv-loop μ-loop
 loop-less c = search needs
 
 loop-again : tie.Need-loop-again Inv-loop μ-loop
 loop-again c =
-    let s = c .before .before .before .before .before .before .before .before .before in
+    let s = c .before .before .before .before .before .before .before .before .before .before in
     let n = s .before .before .before .before .before .before .before .before in
-    omega (arith, s .step, n .next, n .before .before .before .loop .inv)
+    let l = n .before .before .before .before .before in
+    omega (arith, s .step, n .next, l .loop .inv)
 
 flush-requires : tie.Need-flush-requires Inv-loop μ-loop
 flush-requires c κs = search needs

@@ -1,21 +1,23 @@
--- The input stays within the buffer from record to record, and the records left become fewer.
+-- The input stays within the buffer from record to record, and the turns left become fewer.
 use mathlib.Core.Path.{_≡_}
+use native.Mathlib.Omega.{arith}
 use lib.ListN.{length}
 use Rattle.stream.specs.Input.{Held}
+use Rattle.replay.proofs.RecordLaws.{first-lies}
 use borrow.Author.Needs.{needs}
 use Rattle.replay.proofs.run.Statement.{statement}
 use Rattle.replay.proofs.run.Tie as tie
 
 abbrev Inv-loop : tie.InvT-loop
-Inv-loop tables₀ staging₀ slots₀ echo₀ buffer₀ text₀ state₀ input₀ at₀ records₀
-    tables staging slots echo buffer text state input at records =
+Inv-loop tables₀ staging₀ slots₀ echo₀ buffer₀ text₀ state₀ input₀ at₀ turns₀
+    tables staging slots echo buffer text state input at turns =
     (length tables ≡ length tables₀) × (length staging ≡ length staging₀) × (length slots ≡ length slots₀) × (length echo ≡ length echo₀)
     × (length buffer ≡ length buffer₀) × (length text ≡ length text₀) × Held input buffer
 
 abbrev μ-loop : tie.MeasureT-loop
-μ-loop tables₀ staging₀ slots₀ echo₀ buffer₀ text₀ state₀ input₀ at₀ records₀
-    tables staging slots echo buffer text state input at records =
-    records
+μ-loop tables₀ staging₀ slots₀ echo₀ buffer₀ text₀ state₀ input₀ at₀ turns₀
+    tables staging slots echo buffer text state input at turns =
+    turns
 
 fresh-requires : tie.Need-fresh-requires Inv-loop μ-loop
 fresh-requires c κs = search needs
@@ -26,17 +28,30 @@ none-requires c κs = search needs
 loop-holds : tie.Need-loop-holds Inv-loop μ-loop
 loop-holds c = search needs
 
+next-requires : tie.Need-next-requires Inv-loop μ-loop
+next-requires c κs = search needs
+
 step-requires : tie.Need-step-requires Inv-loop μ-loop
-step-requires c κs = search needs
+step-requires c κs =
+    let k = c .before .before .before .before .before .before .before .before .before in
+    let n = k .next in
+    first-lies (n .result) _ (n .last .0) (n .ensures)
 
 left-requires : tie.Need-left-requires Inv-loop μ-loop
-left-requires c κs = search needs
+left-requires c κs =
+    let s = c .before .before .before .before .before .before .before .before .before .before .before .before .before in
+    let l = s .before .before .before .before .before .before .before .before .before .before .before .before .before .before in
+    omega (arith, l .loop-test .taken)
 
 loop-less : tie.Need-loop-less Inv-loop μ-loop
 loop-less c = search needs
 
 loop-again : tie.Need-loop-again Inv-loop μ-loop
-loop-again c = search needs
+loop-again c =
+    let s = c .before .before .before .before .before .before .before .before .before .before .before .before .before .before in
+    let n = s .before .before .before .before .before .before .before .before .before .before in
+    let l = n .before .before .before .before .before in
+    omega (arith, s .step, n .next, l .loop .inv)
 
 flush-requires : tie.Need-flush-requires Inv-loop μ-loop
 flush-requires c κs = search needs
@@ -71,6 +86,7 @@ run-spec =
     fresh-requires
     none-requires
     loop-holds
+    next-requires
     step-requires
     left-requires
     loop-less

@@ -1,34 +1,38 @@
--- The body that `step` hands on lies in the buffer, and so does the input behind it.
-use mathlib.Core.Path.{subst}
-use Prim.Native.Nat.{ℕ}
+-- `step` does with each record what the definition says, and the input behind it stays in the buffer.
+use mathlib.Core.Path.{_≡_, refl, subst, _∙_}
 use mathlib.Core.List.{List}
+use Prim.Native.Nat.{ℕ}
 use native.Mathlib.Omega.{arith}
 use denote.Ref.{now}
-use Rattle.stream.specs.Input.{waitingIn}
 use Rattle.stream.specs.Record.{LongAs}
 use Rattle.stream.specs.declared.record.Next.{Next}
 use Rattle.stream.specs.declared.record.Next.the-variants.{Record}
-use Rattle.replay.specs.Record.{FirstOf}
+use Rattle.stream.specs.declared.record.Step.{Step}
+use Rattle.replay.specs.Step.{LiesIn, Stepped}
 use borrow.Author.Needs.{needs}
 use Rattle.replay.proofs.step.Statement.{statement}
 use Rattle.replay.proofs.step.Tie as tie
 
--- where the record was looked for, and the bytes that waited before that
-abbrev looked : tie.After-found → tie.After-next
-looked c = c .before .before .before .before
+-- where the function began
+abbrev begun : tie.After-found → tie.Start
+begun c = c .before .before .before .before .before .before .before .before
 
-abbrev waited : tie.After-found → List ℕ
-waited c =
-    let s = looked c .before .before .before .before .before .before .before .before in
-    waitingIn (s .args .input) (now (s .args .buffer))
-
--- the record that was found stands first there
+-- the record that was found lies in the buffer
 lies : (c : tie.After-found) →
-    let x = c .found .given .0 in FirstOf (Record (x .0) (x .1 .0) (x .1 .1 .0) (x .1 .1 .1 .0)) (waited c) (looked c .next .last .0)
-lies c = subst (λ (x : Next). FirstOf x (waited c) (looked c .next .last .0)) (c .found .given .1) (looked c .next .ensures)
+    let x = c .found .given .0 in LiesIn (Record (x .0) (x .1 .0) (x .1 .1 .0) (x .1 .1 .1 .0)) (now (begun c .args .buffer))
+lies c = subst (λ (x : Next). LiesIn x (now (begun c .args .buffer))) (c .found .given .1) (begun c .pre)
 
-next-requires : tie.Need-next-requires
-next-requires c κs = search needs
+-- what a step makes of a record, from the state and the buffers that it was given
+abbrev Makes : tie.Start → Next → Step → (tables staging slots echo : List ℕ) → Type 0
+Makes c x r tables staging slots echo =
+    let a = c .args in
+    Stepped x (a .state) (now (a .tables)) (now (a .staging)) (now (a .slots)) (now (a .echo)) (now (a .buffer))
+    r tables staging slots echo
+
+-- the record that the match took apart is the one that was found
+stepped : (c : tie.Start) {x y : Next} (r : Step) (tables staging slots echo : List ℕ) → x ≡ y
+    → Makes c y r tables staging slots echo → Makes c x r tables staging slots echo
+stepped c r tables staging slots echo e h = rw e h
 
 enum-told : tie.Need-enum-told
 enum-told c = search needs
@@ -46,37 +50,54 @@ enum-known-found : tie.Need-enum-known-found
 enum-known-found c = search needs
 
 sub-body : tie.Need-sub-body
-sub-body c = lies (c .before) .0 .1
+sub-body c = lies (c .before) .0
 
 part-body-start : tie.Need-part-body-start
-part-body-start c = lies (c .before .before) .0 .1
+part-body-start c = lies (c .before) .0
 
 part-body-end : tie.Need-part-body-end
-part-body-end c = omega (arith, lies (c .before .before) .0 .2)
+part-body-end c = omega (arith, lies (c .before) .1)
 
 carry-out-requires : tie.Need-carry-out-requires
 carry-out-requires c κs =
     let b = c .before .before .before .before .before .before in
-    let f = b .before .before .before in
-    subst (LongAs (f .found .given .0 .0)) (b .body .given .1) (lies f .1 .1)
+    let f = b .before .before in
+    subst (LongAs (f .found .given .0 .0)) (b .body .given .1) (lies f .2)
 
 going-on-requires : tie.Need-going-on-requires
 going-on-requires c κs = search needs
 
+returns : tie.Need-returns
+returns c =
+    let t = c .before in
+    let s = t .before .before .before .before .before .before .before .before in
+    let a = s .args in
+    let e = c .stopped .ensures in (
+      omega (arith, e .1, e .2),
+      stepped s (c .stopped .result) (now (a .tables)) (now (a .staging)) (now (a .slots)) (now (a .echo)) (t .enum-told .given .1)
+          (e .0, refl, refl, refl, refl, e .3),
+    )
+
 same-length : tie.Need-same-length
 same-length c = search needs
 
-returns : tie.Need-returns
-returns c = search needs
+returns-2 : tie.Need-returns-2
+returns-2 c =
+    let x = c .before .before in
+    let t = x .before .before .before in
+    let s = t .before .before .before .before .before .before .before .before in
+    let a = s .args in
+    let e = x .bad .ensures in (
+      omega (arith, e .1, e .2),
+      stepped s (x .bad .result) (now (a .tables)) (now (a .staging)) (now (a .slots)) (now (a .echo)) (t .enum-told2 .given .1)
+          (e .0, refl, refl, refl, refl, e .3),
+    )
 
 same-length-2 : tie.Need-same-length-2
 same-length-2 c = search needs
 
 same-length-3 : tie.Need-same-length-3
 same-length-3 c = search needs
-
-returns-2 : tie.Need-returns-2
-returns-2 c = search needs
 
 same-length-4 : tie.Need-same-length-4
 same-length-4 c = search needs
@@ -87,29 +108,23 @@ same-length-5 c = search needs
 same-length-6 : tie.Need-same-length-6
 same-length-6 c = search needs
 
-same-length-7 : tie.Need-same-length-7
-same-length-7 c = search needs
-
-same-length-8 : tie.Need-same-length-8
-same-length-8 c =
-    let x = c .before .before .before .before .before .before .before .before .before .before .before .before in
-    let n = x .before .before .before .before .before .before .before .before .before .before .before .before .before in
-    n .next .kept .0
-
-same-length-9 : tie.Need-same-length-9
-same-length-9 c = search needs
-
 returns-3 : tie.Need-returns-3
 returns-3 c =
-    let x = c .before .before .before .before .before .before .before .before .before .before .before .before in
+    let x = c .before .before .before .before .before .before .before .before .before .before .before in
     let f = x .before .before .before .before .before .before .before .before .before in
-    omega (arith, c .going-on .ensures, lies f .0 .2)
+    let e = x .carry-out .ensures in
+    let g = c .going-on .ensures in
+    let last = x .carry-out .last in (
+      omega (arith, g .1, g .2, lies f .1),
+      stepped (begun f) (c .going-on .result) (last .1 .1 .0) (last .1 .1 .1 .0) (last .1 .1 .1 .1 .0) (last .1 .1 .1 .1 .1 .0)
+          (f .found .given .1)
+          (g .0 ∙ e .0, e .1 .0, e .1 .1 .0, e .1 .1 .1 .0, e .1 .1 .1 .1, g .1, g .2, g .3),
+    )
 
 pub step-spec : {M : Type 1} → statement M
 step-spec =
     tie.close
     (tie.spec
-    next-requires
     enum-told
     stopped-requires
     enum-told-2
@@ -120,15 +135,12 @@ step-spec =
     part-body-end
     carry-out-requires
     going-on-requires
-    same-length
     returns
+    same-length
+    returns-2
     same-length-2
     same-length-3
-    returns-2
     same-length-4
     same-length-5
     same-length-6
-    same-length-7
-    same-length-8
-    same-length-9
     returns-3)

@@ -19,9 +19,9 @@ same-length c = search needs
 returns : tie.Need-returns
 returns c =
     let f = c .before .before .before .before in
-    let s = f .before .before .before in
+    let a = f .before .before .before .before .before .args in
     let l = length-waiting (f .fill .result) (f .fill .last .0) (f .fill .ensures .0) in
-    (begins-none (waitingIn (s .args .input) (now (s .args .buffer))) _ (f .fill .ensures .1) (omega (arith, l)), tt)
+    (begins-none (waitingIn (a .input) (now (a .buffer))) _ (f .fill .ensures .1) (omega (arith, l)), tt)
 
 slice-read-kind : tie.Need-slice-read-kind
 slice-read-kind c = search needs
@@ -37,9 +37,10 @@ returns-2 c = search needs
 
 whole-requires : tie.Need-whole-requires
 whole-requires c κs =
-    let n = c .before .before .body-bytes .ensures in
-    let f = c .before .before .before .before .before .before .before .before in
-    (f .fill .ensures .0, (omega (arith, n .0), (omega (arith, f .fill .ensures .0), refl)))
+    let b = c .before .before .before in
+    let f = b .before .before .before .before .before .before in
+    let e = f .fill .ensures in
+    (e .0, (omega (arith, b .body-bytes .ensures .0), (omega (arith, e .0), refl)))
 
 same-length-3 : tie.Need-same-length-3
 same-length-3 c = search needs
@@ -47,12 +48,14 @@ same-length-3 c = search needs
 returns-3 : tie.Need-returns-3
 returns-3 c =
     let w = c .before .before in
-    let n = w .before .before .before .body-bytes .ensures in
-    let f = w .before .before .before .before .before .before .before .before .before in
-    let a = f .before .before .before .args in
+    let b = w .before .before .before .before in
+    let f = b .before .before .before .before .before .before in
+    let a = f .before .before .before .before .before .args in
     let e = w .whole .ensures in
-    let r = w .whole .result in
-    (found-then r (waitingIn (a .input) (now (a .buffer))) _ _ (f .fill .ensures .1) (e .0), body-long _ _ r (n .1) (e .1))
+    let r = w .whole .result in (
+      found-then r (waitingIn (a .input) (now (a .buffer))) _ _ (f .fill .ensures .1) (e .0),
+      body-long _ _ r (b .body-bytes .ensures .1) (e .1),
+    )
 
 pub next-spec : {M : Type 1} → statement M
 next-spec =

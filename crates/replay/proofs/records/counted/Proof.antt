@@ -33,9 +33,9 @@ cast-whole c = search needs
 
 whole-requires : tie.Need-whole-requires
 whole-requires c κs =
-    let u = c .before in
+    let u = c .before .before in
     let f = u .before .before .before .before .before .before in
-    let s = f .before .before .before in
+    let s = f .before .before .before .before .before in
     let new = s .pre .1 .1 in
     let j = f .fill .result in
     let e = f .fill .ensures in
@@ -48,9 +48,9 @@ same-length-2 c = search needs
 returns-2 : tie.Need-returns-2
 returns-2 c =
     let w = c .before .before in
-    let u = w .before .before in
+    let u = w .before .before .before in
     let f = u .before .before .before .before .before .before in
-    let s = f .before .before .before in
+    let s = f .before .before .before .before .before in
     let k = s .args .kind in
     let t = s .pre .1 .0 in
     let r = w .whole .result in

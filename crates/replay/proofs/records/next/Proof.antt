@@ -20,9 +20,9 @@ same-length c = search needs
 returns : tie.Need-returns
 returns c =
     let f = c .before .before .before .before in
-    let s = f .before .before .before in
+    let a = f .before .before .before .before .before .args in
     let l = length-waiting (f .fill .result) (f .fill .last .0) (f .fill .ensures .0) in
-    (begins-none (waitingIn (s .args .input) (now (s .args .buffer))) _ (f .fill .ensures .1) (omega (arith, l)), tt)
+    (begins-none (waitingIn (a .input) (now (a .buffer))) _ (f .fill .ensures .1) (omega (arith, l)), tt)
 
 slice-read-kind : tie.Need-slice-read-kind
 slice-read-kind c = search needs
@@ -32,8 +32,9 @@ is-counted-requires c κs = search needs
 
 counted-requires : tie.Need-counted-requires
 counted-requires c κs =
-    let f = c .before .before .before .before .before .before .before .before in
-    let t = sym (c .before .before .is-counted .ensures) ∙ c .before .if2 .taken in
+    let i = c .before .before .before in
+    let f = i .before .before .before .before .before .before in
+    let t = sym (i .is-counted .ensures) ∙ c .before .before .if2 .taken in
     (f .fill .ensures .0, (t, (omega (arith, f .fill .ensures .0), refl)))
 
 same-length-2 : tie.Need-same-length-2
@@ -42,8 +43,8 @@ same-length-2 c = search needs
 returns-2 : tie.Need-returns-2
 returns-2 c =
     let w = c .before .before in
-    let f = w .before .before .before .before .before .before .before .before .before in
-    let a = f .before .before .before .args in
+    let f = w .before .before .before .before .before .before .before .before .before .before in
+    let a = f .before .before .before .before .before .args in
     let e = w .counted .ensures in
     (found-then (w .counted .result) (waitingIn (a .input) (now (a .buffer))) _ _ (f .fill .ensures .1) (e .0), e .1)
 
@@ -58,9 +59,10 @@ returns-3 c = search needs
 
 whole-requires : tie.Need-whole-requires
 whole-requires c κs =
-    let n = c .before .before .fixed-bytes .ensures in
-    let f = c .before .before .before .before .before .before .before .before .before .before in
-    (f .fill .ensures .0, (omega (arith, n .0), (omega (arith, f .fill .ensures .0), refl)))
+    let b = c .before .before .before in
+    let f = b .before .before .before .before .before .before .before .before in
+    let e = f .fill .ensures in
+    (e .0, (omega (arith, b .fixed-bytes .ensures .0), (omega (arith, e .0), refl)))
 
 same-length-4 : tie.Need-same-length-4
 same-length-4 c = search needs
@@ -68,16 +70,17 @@ same-length-4 c = search needs
 returns-4 : tie.Need-returns-4
 returns-4 c =
     let w = c .before .before in
-    let n = w .before .before .before .fixed-bytes .ensures in
-    let i = w .before .before .before .before .before in
-    let f = i .before .before .before .before .before .before in
-    let a = f .before .before .before .args in
-    let k = getD (f .fill .last .0) (f .fill .result .at) 0 in
     let b = w .before .before .before .before in
-    let t = sym (i .is-counted .ensures) ∙ b .if2 .left in
+    let i = b .before .before in
+    let f = i .before .before .before .before .before .before in
+    let a = f .before .before .before .before .before .args in
+    let k = getD (f .fill .last .0) (f .fill .result .at) 0 in
+    let t = sym (i .is-counted .ensures) ∙ b .before .if2 .left in
     let r = w .whole .result in
-    let e = w .whole .ensures in
-    (found-then r (waitingIn (a .input) (now (a .buffer))) _ _ (f .fill .ensures .1) (e .0), own-long k _ r _ t (n .1) (e .1))
+    let e = w .whole .ensures in (
+      found-then r (waitingIn (a .input) (now (a .buffer))) _ _ (f .fill .ensures .1) (e .0),
+      own-long k _ r _ t (b .fixed-bytes .ensures .1) (e .1),
+    )
 
 pub next-spec : {M : Type 1} → statement M
 next-spec =

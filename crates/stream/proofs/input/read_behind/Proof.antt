@@ -9,11 +9,11 @@ use Rattle.stream.proofs.input.read_behind.Statement.{statement}
 use Rattle.stream.proofs.input.read_behind.Tie as tie
 
 abbrev Inv-loop : tie.InvT-loop
-Inv-loop buffer₀ held n end₀ buffer end =
+Inv-loop fd buffer₀ held n end₀ failed₀ turns₀ buffer end failed turns =
     (held ≤ end) × (end ≤ length buffer₀) × (length buffer ≡ length buffer₀) × (take held buffer ≡ take held buffer₀)
 
 abbrev μ-loop : tie.MeasureT-loop
-μ-loop buffer₀ held n end₀ buffer end = length buffer₀ - end
+μ-loop fd buffer₀ held n end₀ failed₀ turns₀ buffer end failed turns = turns
 
 loop-holds : tie.Need-loop-holds Inv-loop μ-loop
 loop-holds c = search needs
@@ -30,34 +30,30 @@ part-read-end c = search needs
 read-requires : tie.Need-read-requires Inv-loop μ-loop
 read-requires c κs = search needs
 
-same-length : tie.Need-same-length Inv-loop μ-loop
-same-length c = search needs
-
-returns : tie.Need-returns Inv-loop μ-loop
-returns c =
-    let k = c .before .before .before in
-    let l = k .before .before .before in
-    let v = l .loop .inv in
-    let b = l .loop .buffer in
-    let e = l .loop .end in
-    let kept = front-kept (l .before .before .args .held) e (length b - e) b (k .read .last .0) (v .0) (omega arith) in
-    ((v .0, v .1), kept ∙ v .3)
-
 add-end : tie.Need-add-end Inv-loop μ-loop
 add-end c = search needs
+
+left-requires : tie.Need-left-requires Inv-loop μ-loop
+left-requires c κs = search needs
 
 loop-less : tie.Need-loop-less Inv-loop μ-loop
 loop-less c = search needs
 
 loop-again : tie.Need-loop-again Inv-loop μ-loop
 loop-again c =
-    let k = c .before .before .before in
-    let l = k .before .before .before in
+    let k = c .before .before .before .before .before in
+    let l = k .before .before .before .before in
     let v = l .loop .inv in
     let b = l .loop .buffer in
     let e = l .loop .end in
-    let kept = front-kept (l .before .before .args .held) e (length b - e) b (k .read .last .0) (v .0) (omega arith) in
+    let kept = front-kept (l .before .before .args .held) e (length b - e) b (k .read .last .1 .0) (v .0) (omega arith) in
     (omega (arith, v), search needs, search needs, kept ∙ v .3)
+
+same-length : tie.Need-same-length Inv-loop μ-loop
+same-length c = search needs
+
+returns : tie.Need-returns Inv-loop μ-loop
+returns c = search needs
 
 same-length-2 : tie.Need-same-length-2 Inv-loop μ-loop
 same-length-2 c = search needs
@@ -76,10 +72,11 @@ read-behind-spec =
     part-read-start
     part-read-end
     read-requires
-    same-length
-    returns
     add-end
+    left-requires
     loop-less
     loop-again
+    same-length
+    returns
     same-length-2
     returns-2)

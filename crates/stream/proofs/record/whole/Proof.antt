@@ -29,8 +29,8 @@ returns c = search needs
 add-from : tie.Need-add-from
 add-from c = search needs
 
-add-t13 : tie.Need-add-t13
-add-t13 c = search needs
+add-t15 : tie.Need-add-t15
+add-t15 c = search needs
 
 same-length-2 : tie.Need-same-length-2
 same-length-2 c = search needs
@@ -38,7 +38,7 @@ same-length-2 c = search needs
 returns-2 : tie.Need-returns-2
 returns-2 c =
     let f = c .before .before .before in
-    let s = f .before .before .before in
+    let s = f .before .before .before .before .before in
     let i = s .args .input in
     let j = f .fill .result in
     let new = s .pre .1 .1 in
@@ -59,6 +59,6 @@ whole-spec =
     same-length
     returns
     add-from
-    add-t13
+    add-t15
     same-length-2
     returns-2)

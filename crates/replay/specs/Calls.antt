@@ -1,0 +1,38 @@
+-- A record of replay, carried out: the call of its kind. Assumes nothing.
+use mathlib.Core.Bool.{cond}
+use mathlib.Core.List.{List}
+use Prim.Native.Nat.{ℕ}
+use lib.Dec.{eqb}
+use Rattle.wire.specs.Bytes.{zeros, at32}
+use Rattle.state.specs.declared.State.{State}
+use Rattle.processor.specs.Close.{outBytes, closeDone}
+use Rattle.processor.specs.Line.{lineDone}
+use Rattle.processor.specs.Package.{packageDone}
+use Rattle.processor.specs.Reading.{readingDone}
+use Rattle.stream.specs.Record.{countsIn, recordDone}
+
+-- a state, and what each lent buffer holds then
+pub record Carried : Type 0 where
+  pub state : State
+  pub tables : List ℕ
+  pub staging : List ℕ
+  pub slots : List ℕ
+  pub echo : List ℕ
+
+abbrev pub carried : State → (tables staging slots echo : List ℕ) → Carried
+carried s tables staging slots echo = record { state = s; tables = tables; staging = staging; slots = slots; echo = echo }
+
+-- "1 event .., 2 reading .., 3 line .., 4 close", and 5 a package; a close's packets go to a buffer of zeros. A packet that is read
+-- changes nothing
+unfoldable pub carriedOut : (kind : ℕ) → State → (tables staging slots echo body : List ℕ) → Carried
+carriedOut kind s tables staging slots echo body =
+    let event = recordDone s tables slots body in
+    let line = lineDone s body echo in
+    let close = closeDone s (at32 body 0) tables staging slots (zeros outBytes) in
+    let loaded = packageDone s body staging echo in
+    cond (eqb kind 1) (carried (event .answer .state) tables staging (event .slots) echo)
+    (cond (eqb kind 2) (carried (readingDone s (countsIn body) .state) tables staging slots echo)
+    (cond (eqb kind 3) (carried (line .answer .state) tables staging slots (line .echo))
+    (cond (eqb kind 4) (carried (close .answer .state) (close .tables) staging (close .slots) echo)
+    (cond (eqb kind 5) (carried (loaded .answer .state) tables (loaded .staging) slots (loaded .echo))
+    (carried s tables staging slots echo)))))

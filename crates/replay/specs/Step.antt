@@ -1,0 +1,43 @@
+-- One step of the program: what it makes of the record that was found. Assumes nothing.
+use mathlib.Core.Bool.{true, false}
+use mathlib.Core.List.{List}
+use mathlib.Core.Path.{_≡_}
+use Prim.Native.Nat.{ℕ, _-_, _≤_}
+use lib.ListN.{take, drop}
+use Rattle.state.specs.declared.State.{State}
+use Rattle.stream.specs.Input.{Held}
+use Rattle.stream.specs.Record.{LongAs}
+use Rattle.stream.specs.declared.record.Next.{Next}
+use Rattle.stream.specs.declared.record.Next.the-variants.{End, Bad, Record}
+use Rattle.stream.specs.declared.record.Step.{Step}
+use Rattle.replay.specs.Calls.{carriedOut}
+
+-- the record's body lies in the buffer, and the rest of the input behind it
+abbrev pub LiesIn : Next → (buffer : List ℕ) → Type 0
+LiesIn End buffer = Unit {0}
+LiesIn Bad buffer = Unit {0}
+LiesIn (Record kind start from rest) buffer = (from ≤ rest .at) × Held rest buffer × LongAs kind (rest .at - from)
+
+-- the end and a bad record change nothing and are the last
+abbrev pub Same : State → (tables staging slots echo : List ℕ) → Step → (tables′ staging′ slots′ echo′ : List ℕ) → Type 0
+Same s tables staging slots echo r tables′ staging′ slots′ echo′ =
+    (r .state ≡ s) × (tables′ ≡ tables) × (staging′ ≡ staging) × (slots′ ≡ slots) × (echo′ ≡ echo) × (r .more ≡ false)
+
+-- from state s, tables, staging, slots and echo to those of the step: any other record is carried out, and the program goes
+-- on behind it
+abbrev pub Stepped : Next → State → (tables staging slots echo buffer : List ℕ) → Step
+    → (tables′ staging′ slots′ echo′ : List ℕ) → Type 0
+Stepped End s tables staging slots echo buffer r tables′ staging′ slots′ echo′ =
+    Same s tables staging slots echo r tables′ staging′ slots′ echo′
+Stepped Bad s tables staging slots echo buffer r tables′ staging′ slots′ echo′ =
+    Same s tables staging slots echo r tables′ staging′ slots′ echo′
+Stepped (Record kind start from rest) s tables staging slots echo buffer r tables′ staging′ slots′ echo′ =
+    let done = carriedOut kind s tables staging slots echo (take (rest .at - from) (drop from buffer)) in
+    (r .state ≡ done .state)
+    × (tables′ ≡ done .tables)
+    × (staging′ ≡ done .staging)
+    × (slots′ ≡ done .slots)
+    × (echo′ ≡ done .echo)
+    × (r .input .at ≡ rest .at)
+    × (r .input .end ≡ rest .end)
+    × (r .more ≡ true)
