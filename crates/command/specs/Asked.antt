@@ -25,7 +25,7 @@ isCommand (Waits c) = true
 isCommand LoadZero = true
 isCommand (LoadAt a) = true
 
--- what a waiting load blocks: "6 a load waits (load, load 0, loadat, package)"
+-- what a waiting load blocks: 6, "a load waits (load, load 0, loadat, package)"
 abbrev pub usesStaging : Line → Bool
 usesStaging Empty = false
 usesStaging Wrong = false

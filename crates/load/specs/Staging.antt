@@ -42,7 +42,7 @@ fits p next = leb (next + payloadBytes p) stagingBytes
 abbrev pub placeable : List ℕ → (next : ℕ) → Bool
 placeable p next = formed p && fits p next
 
--- its causes: "8 no N, N below 2 or not matching the bytes; 9 package passes staging's end; 10 package sum wrong"
+-- its causes: 8 "no N, N below 2 or not matching the bytes", 9 "package passes staging's end", 10 "package sum wrong"
 abbrev pub packageChecks : (p : List ℕ) (next : ℕ) → List Check
 packageChecks p next =
     (formed p, packageForm) ∷ (fits p next, pastStaging) ∷ (eqb (receivedSum p) (computedSum p), packageSum) ∷ []

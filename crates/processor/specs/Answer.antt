@@ -10,6 +10,6 @@ use Rattle.processor.specs.declared.Answer.{Answer}
 abbrev pub answer : (number : ℕ) → State → Answer
 answer number s = record { number = number; state = s }
 
--- "A call that is carried out answers 0": what it makes of something; what it would have changed is "left as it was" by any other number
+-- "A call that is carried out answers 0": what it makes of something. By any other number that is left as it was
 abbrev pub ifCarriedOut : {A : Type 0} (number : ℕ) (after before : A) → A
 ifCarriedOut number after before = cond (eqb number carriedOut) after before

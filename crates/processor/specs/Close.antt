@@ -47,7 +47,7 @@ closeNumber s tables staging slots out = numberBy (closeChecks s tables staging 
 
 -- ---- the packets, "from the ending interval's settings and tables"
 
--- sample packets 0 to n - 1: "packet p has slots 64p to 64p + 63"
+-- sample packets 0 to n - 1: "packet p .. has slots 64p to 64p + 63"
 unfoldable pub samplesOf : (frame time : ℕ) (slots : List ℕ) (n : ℕ) → List ℕ
 samplesOf frame time slots zero = []
 samplesOf frame time slots (suc n) =

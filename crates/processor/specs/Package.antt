@@ -30,7 +30,7 @@ packageCallNumber s p staging echo = numberBy (packageCallChecks s p staging ech
 abbrev pub isStaged : (number : ℕ) → Bool
 isStaged number = eqb number cause.carriedOut || eqb number cause.packageSum
 
--- "A the address before, N the bytes placed"; "ckserr with received and computed sum for OK"
+-- "A the address before, N the bytes placed"; ckserr "with received and computed sum for OK"
 abbrev pub stagedEcho : (number next : ℕ) (p : List ℕ) → List ℕ
 stagedEcho number next p =
     cond (eqb number cause.carriedOut)

@@ -34,7 +34,7 @@ Distinct (x ∷ xs) = All (λ y. x ≢ y) xs × Distinct xs
 
 -- ---- the balances
 
--- the count of box b, and "the sum of 8 to 116"
+-- the count of box b, and the sum of boxes 8 to 116
 abbrev pub box : Counts → (b : ℕ) → ℕ
 box c b = getD (c .boxes) (b - 1) 0
 
@@ -74,7 +74,7 @@ pub record Moment (t : Tally) (w : World) : Type 0 where
   pub same : w ≡ view t
   pub limits : withinLimits (w .state) ≡ true
   pub balanced : Balanced (w .state .interval .taken) (w .state .interval .counts)
-  -- "filled is the lesser of 704 and the eligible events"
+  -- as many slots are filled as there are eligible events, up to 704
   pub filled-are : filled (w .slots) ≡ min slotCount (length (eligibles t))
   pub samples : Samples t (w .slots)
 

@@ -43,8 +43,8 @@ pub record Gathered : Type 0 where
   pub events : List Event
   pub readings : List (List ℕ)
 
--- "It keeps tables and staging, next address, reach, settings, waiting commands, how many were accepted, readings, and the interval's
--- events in order", and how many closes there were
+-- "It keeps tables and staging .., next address, reach, settings, waiting commands, how many were accepted, readings, and the
+-- interval's events in order", and how many closes there were
 pub record Tally : Type 0 where
   pub closes : ℕ
   pub tables : List ℕ
