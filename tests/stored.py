@@ -3,14 +3,17 @@
     python3 tests/stored.py             prints what differs; the last line is 'N passed, M failed'
     python3 tests/stored.py --write     writes them anew
 
-No program runs here. The rules are those of paper.py, which is held to "Numbers at the edges" first. The inputs of
-replay, minute and command_cases are their stored stdin and tables.bin; those of sort_cases and packet_cases, which
-have them in their sources, are repeated below.
+No program runs here. The rules are those of paper.py, which is held to "Numbers at the edges" first. The inputs:
+- replay: its stored tables.bin and stdin, which `reference/target/release/streams 200 400 FOLDER` writes;
+- minute: the example of document 01, which is its stored stdin;
+- command_cases: command_inputs.py, which its stored stdin is compared with too;
+- sort_cases and packet_cases: those in their sources, repeated below.
 """
 import functools
 import os
 import sys
 
+import command_inputs
 import paper
 from paper import Event, Processor, Settings, get_numbers
 
@@ -66,7 +69,8 @@ def packet_lines(p):
     lines = ["packet 0", joined(p.kind, p.sequence, p.time, p.frame)]
     if p.kind == "rate":
         s = p.settings
-        return lines + [joined("rates", *p.rates), joined("settings", s.hvstep, s.hv, s.eonly, s.toferror, s.junk, s.limhi, p.sum)]
+        settings = joined("settings", s.hvstep, s.hv, s.eonly, s.toferror, s.junk, s.limhi, p.sum)
+        return lines + [joined("rates", *p.rates), settings]
     if p.kind == "beacon":
         return lines + [joined("rates", *p.beacons)]
     return [lines[0], joined(lines[1], p.p), "records " + p.records.hex()]
@@ -103,16 +107,16 @@ def replay():
     return replay_lines(stored("replay", "data/tables.bin"), stored("replay", "stdin"))
 
 
-# ---- minute: the example of document 01, 'The program "minute"'
+# ---- minute: the example of document 01, 'The program "minute"', an event and a close
+
+EXAMPLE = bytes.fromhex("01 00 05 00 64 00 00 00 04 00 00 00 3C")
+
 
 def minute():
-    """The example's bytes are an event and a close; "Each close prints the ended frame, taken, boxes 5, 6, 7, filled slots"."""
-    stream = stored("minute", "stdin")
-    if stream != bytes.fromhex("01 00 05 00 64 00 00 00 04 00 00 00 3C"):
-        return ["the stored input is not the example of document 01"]
+    # "Each close prints the ended frame, taken, boxes 5, 6, 7, filled slots"
     processor = Processor(stored("minute", "data/tables.bin"))
-    processor.event(event_of(stream[1:8]))
-    c = processor.close(int.from_bytes(stream[9:], "big"))
+    processor.event(event_of(EXAMPLE[1:8]))
+    c = processor.close(int.from_bytes(EXAMPLE[9:], "big"))
     return [joined(c.frame, c.taken, *c.boxes[4:7], c.filled)]
 
 
@@ -328,8 +332,7 @@ COMMAND_CASES = {
 
 
 def command_cases():
-    cases = [bytes.fromhex(x) for x in stored("command_cases", "stdin").decode().splitlines()]
-    return [COMMAND_CASES[case[0]](case[1:]) for case in cases]
+    return [COMMAND_CASES[case[0]](case[1:]) for case in command_inputs.cases()]
 
 
 # ---- "Numbers at the edges", to which paper.py is held
@@ -348,29 +351,36 @@ def edges():
 # ---- comparing and writing
 
 def check(name, found, expected):
-    """Two lists of lines: prints each line that differs."""
+    """Two lists: prints each place where they differ."""
     differing = [k for k in range(max(len(found), len(expected))) if found[k:k + 1] != expected[k:k + 1]]
     counts["failed" if differing else "passed"] += 1
     for k in differing:
-        print(f"{name}, line {k + 1}\n  stored   {''.join(found[k:k + 1])[:300]}\n  document {''.join(expected[k:k + 1])[:300]}")
+        print(f"{name}, line {k + 1}")
+        print("  found     ", *found[k:k + 1])
+        print("  by paper  ", *expected[k:k + 1])
 
 
-def compare(crate, expected):
-    """Every line of a stored output ends in LF."""
-    *lines, rest = stored(crate, "stdout").decode().split("\n")
-    check(f"crates/{crate}/stdout", lines + [rest] * (rest != ""), expected)
+def compare(crate, name, expected):
+    check(f"crates/{crate}/{name}", stored(crate, name).split(b"\n"), expected.split(b"\n"))
 
 
-def write(crate, expected):
-    with open(os.path.join(CRATES, crate, "stdout"), "w", encoding="ascii", newline="\n") as f:
-        f.writelines(x + "\n" for x in expected)
+def write(crate, name, expected):
+    with open(os.path.join(CRATES, crate, name), "wb") as f:
+        f.write(expected)
+
+
+def text(lines):
+    """Every line ends in LF."""
+    return "".join(x + "\n" for x in lines).encode()
 
 
 def main():
     deal = write if "--write" in sys.argv[1:] else compare
     edges()
-    for case in (sort_cases, packet_cases, command_cases, minute, replay):
-        deal(case.__name__, case())
+    deal("command_cases", "stdin", text(case.hex() for case in command_inputs.cases()))
+    deal("minute", "stdin", EXAMPLE)
+    for program in (sort_cases, packet_cases, command_cases, minute, replay):
+        deal(program.__name__, "stdout", text(program()))
     print(f"{counts['passed']} passed, {counts['failed']} failed")
     sys.exit(counts["failed"] != 0)
 
