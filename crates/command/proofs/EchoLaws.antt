@@ -1,16 +1,13 @@
 -- Laws of echoes. Assumes nothing.
-use mathlib.Core.Path.{_≡_, refl, sym, ap, _∙_}
+use mathlib.Core.Path.{_≡_, sym, ap, _∙_}
 use mathlib.Core.List.{List, _++_, append-assoc}
-use Prim.Native.Nat.{ℕ, _+_, _-_, _%_, _≤_}
+use Prim.Native.Nat.{ℕ, _+_, _-_, _≤_}
 use native.Mathlib.Omega.{arith}
 use lib.ListN.{length, length-append, length-replicate}
 use Rattle.wire.specs.Bytes.{put, zeros}
 use Rattle.wire.proofs.Bytes.{then, put-all}
-use Rattle.wire.specs.Pieces.{padded}
-use Rattle.wire.proofs.Pieces.{padded-is, length-padded}
-use Rattle.command.specs.Text.{text}
-use Rattle.command.specs.Echo.{hex2, ending, echoBytes, echoed, acceptedEcho, refusedEcho, promptEcho}
-use Rattle.command.specs.Echo.{packageOkEcho, packageErrorEcho}
+use Rattle.wire.proofs.Pieces.{padded-is}
+use Rattle.command.specs.Echo.{ending, echoBytes, echoed}
 
 -- two runs that are all of the list
 filled : {x₁ x₂ : List ℕ} (xs p q : List ℕ) (n : ℕ) → length p ≡ n → length p + length q ≡ length xs
@@ -36,27 +33,3 @@ echo-ends xs p n lx lp h e₁ e₂ =
     ∙ sym (append-assoc p ending (zeros (121 - n)))
     ∙ ap (λ (m : ℕ). p ++ ending ++ zeros m) k
     ∙ sym (padded-is echoBytes (n + 7) (p ++ ending) le)
-
--- ---- an echo has the buffer's length
-
-pub length-accepted : (frame sequence : ℕ) (line : List ℕ) → length line ≤ 80 → length (acceptedEcho frame sequence line) ≡ echoBytes
-unfolding acceptedEcho
-length-accepted frame sequence line h =
-    let front : List ℕ = hex2 (frame % 256) ++ hex2 sequence ++ text " " in
-    length-padded echoBytes (front ++ line ++ ending) (simp length-append (omega arith))
-
-pub length-refused : (line : List ℕ) → length line ≤ 80 → length (refusedEcho line) ≡ echoBytes
-unfolding refusedEcho
-length-refused line h = length-padded echoBytes (line ++ text "?" ++ ending) (simp length-append (omega arith))
-
-pub length-prompt : length promptEcho ≡ echoBytes
-unfolding promptEcho padded
-length-prompt = refl
-
-pub length-package-ok : (address placed : ℕ) → length (packageOkEcho address placed) ≡ echoBytes
-unfolding packageOkEcho padded
-length-package-ok address placed = refl
-
-pub length-package-error : (address placed received computed : ℕ) → length (packageErrorEcho address placed received computed) ≡ echoBytes
-unfolding packageErrorEcho padded
-length-package-error address placed received computed = refl

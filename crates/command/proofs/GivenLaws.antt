@@ -1,7 +1,7 @@
 -- Each command in its ranges is given by some line: `commandOk` refuses no command that a line can give, and no line can
 -- give one that it refuses (`waits-ok`). Assumes nothing.
-use mathlib.Core.Path.{_≡_, refl, ap, _∙_}
-use mathlib.Core.Bool.{Bool, true, false}
+use mathlib.Core.Path.{_≡_, ap, _∙_}
+use mathlib.Core.Bool.{true, false}
 use mathlib.Core.List.{List, [], _∷_, _++_}
 use mathlib.Core.Logic.{⊎-elim}
 use Prim.Native.Nat.{ℕ, _+_, _-_, _/_, _%_, _≤_, _<_}

@@ -10,14 +10,12 @@ use native.Mathlib.Nat.{not-suc-le-zero}
 use lib.ListN.{length, take, drop, getD, length-drop, drop-of-length-le}
 use lib.Seq.{drop-cons, take-all}
 use lib.Dec.{eqb, ltb}
-use Prim.Native.String.{String}
 use borrow.Author.Tests.{eq-eqb, ne-eqb, eqb-true, ltb-true, ltb-false}
 use Rattle.wire.specs.Lists.{all}
 use Rattle.wire.proofs.Lists.{either}
-use Rattle.command.specs.Text.{same, text}
-use Rattle.command.specs.Grammar.{lineWords, onto, isDigit, argumentOf, look, oneArgument, twoArguments, ofWords, lineOf}
+use Rattle.command.specs.Text.{same}
+use Rattle.command.specs.Grammar.{lineWords, onto, isDigit, argumentOf, oneArgument, twoArguments, ofWords, lineOf}
 use Rattle.command.specs.Parsing.{wordLength}
-use Rattle.command.specs.declared.command.Line.{Line}
 use Rattle.command.specs.declared.command.Line.the-variants.{Wrong}
 use Rattle.command.specs.declared.argument.Argument.{Argument}
 use Rattle.command.specs.declared.argument.Argument.the-variants.{Value, Malformed}

@@ -2,8 +2,9 @@
 ghost use mathlib.Core.Path.{_≡_};
 ghost use mathlib.Core.Bool.{true};
 ghost use Prim.Native.Nat.{_≤_};
-ghost use Rattle.load.specs.Load.{loadLawful};
+ghost use lib.ListN.{length};
 ghost use Rattle.load.specs.Staging.{formed, placeable};
+ghost use Rattle.tables.specs.Tables.{tableBytes};
 use crate::output;
 use command::echo;
 use command::line::MAX_LINE;
@@ -120,7 +121,10 @@ fn package_case(body: &[u8]) {
         next: u24_at(body, 0),
         reach: u24_at(body, 3),
     };
-    let p = &body[6..];
+    package(&body[6..], a);
+}
+
+fn package(p: &[u8], a: Addresses) {
     let n = staging::judge(p, a.next);
     output::labelled(b"package ", n as u32);
     if n == causes::PACKAGE_FORM {
@@ -129,6 +133,7 @@ fn package_case(body: &[u8]) {
     if n == causes::PAST_STAGING {
         return;
     }
+    show_package(p);
     place(p, a);
 }
 
@@ -138,7 +143,6 @@ fn place(p: &[u8], a: Addresses)
     let mut area = [0u8; TABLE_BYTES];
     fill(&mut area, 5);
     let after = staging::place(&mut area, a, p);
-    show_package(p);
     output::labelled(b" next ", after.next);
     output::labelled(b" reach ", after.reach);
     output::labelled(b" staging ", output::digest(&area));
@@ -158,28 +162,45 @@ fn load_case(body: &[u8]) {
     if body.len() < 7 {
         return;
     }
-    let a = u24_at(body, 0);
-    let y = body[3];
-    let reach = u24_at(body, 4);
-    if load::words::load_lawful(a, y, reach) {
-        run(a, y, reach);
+    run(u24_at(body, 0), body[3], u24_at(body, 4));
+}
+
+fn run(a: u32, y: u8, reach: u32) {
+    let mut lookup = [0u8; TABLE_BYTES];
+    fill(&mut lookup, 11);
+    let before = output::digest(&lookup);
+    if load_into(&mut lookup, a, y, reach) {
+        output::labelled(b"load lawful ", before);
+        output::labelled(b" ", output::digest(&lookup));
+        first_word(&lookup, a as usize);
     } else {
         output::text(b"load unlawful");
     }
 }
 
-fn run(a: u32, y: u8, reach: u32)
-    requires { ⌜ loadLawful a y reach ≡ true ⌝ }
+// Whether the load is lawful; if it is, it is run.
+fn load_into(lookup: &mut [u8], a: u32, y: u8, reach: u32) -> bool
+    requires { ⌜ length (now lookup) ≡ tableBytes ⌝ }
 {
+    if !load::words::load_lawful(a, y, reach) {
+        return false;
+    }
     let mut area = [0u8; TABLE_BYTES];
-    let mut lookup = [0u8; TABLE_BYTES];
     fill(&mut area, 5);
-    fill(&mut lookup, 11);
-    output::labelled(b"load lawful ", output::digest(&lookup));
-    load::run::run_load(&mut lookup, &area, a, y, reach);
-    output::labelled(b" ", output::digest(&lookup));
+    load::run::run_load(lookup, &area, a, y, reach);
+    true
+}
+
+// The word at an address of the tables.
+fn first_word(lookup: &[u8], a: usize)
+    requires { ⌜ length (now lookup) ≡ tableBytes ⌝ }
+{
     output::text(b" first ");
-    output::word(tables::word(&lookup, a as usize));
+    if tables::FIRST <= a {
+        if a < tables::END {
+            output::word(tables::word(lookup, a));
+        }
+    }
 }
 
 pub fn case(bytes: &[u8]) {

@@ -1,5 +1,5 @@
 // The cases: a line of digits each, two digits a byte.
-ghost use Prim.Native.Nat.{_≤_, _<_};
+ghost use Prim.Native.Nat.{_+_, _*_, _≤_, _<_};
 ghost use lib.ListN.{length};
 use crate::cases::case;
 
@@ -25,6 +25,13 @@ fn digit(b: u8) -> u8
     0
 }
 
+// The byte of the two digits at 2n.
+fn byte_at(line: &[u8], n: usize) -> u8
+    requires { ⌜ 2 * n + 2 ≤ length (now line) ⌝ }
+{
+    16 * digit(line[2 * n]) + digit(line[2 * n + 1])
+}
+
 // The bytes of a case, each of two digits, at the start of `out`; answers how many.
 fn decode(line: &[u8], out: &mut [u8]) -> usize
     ensures { λ r. ⌜ r ≤ length (now (out .exit)) ⌝ }
@@ -34,7 +41,7 @@ fn decode(line: &[u8], out: &mut [u8]) -> usize
         if line.len() < 2 * n + 2 {
             return n;
         }
-        out[n] = 16 * digit(line[2 * n]) + digit(line[2 * n + 1]);
+        out[n] = byte_at(line, n);
         n += 1;
     }
     n

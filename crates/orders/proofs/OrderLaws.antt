@@ -7,7 +7,7 @@ use native.Mathlib.Omega.{arith}
 use native.Mathlib.Numerals.{add-one}
 use borrow.Author.Tests.{leb-true, leb-false, le-leb, not-true}
 use lib.Dec.{leb}
-use lib.ListN.{length, take, set, replicate, length-append}
+use lib.ListN.{length, take, replicate, length-append}
 use lib.Seq.{take-at, take-all, take-suc-set}
 use Rattle.wire.specs.Lists.{all, joinIf, keep}
 use Rattle.wire.proofs.Lists.{and-split, all-append, keep-append, keep-one}

@@ -120,7 +120,8 @@ module _ (st : Stamp) (fits : StampFits 0 st) (totals boxes : List ℕ) (s : Set
   rate-split : rate-body ≡ codes (totals ++ boxes) ++ settingsBytes s sum
   rate-split = ap (λ (l : List ℕ). l ++ settingsBytes s sum) (codes-append totals boxes)
 
-  pub rate-codes : (codesGood rateCount rate-is ≡ true) × (ratesOf rateCount rate-is ≡ map (λ c. leastCount (rateCode c)) (totals ++ boxes))
+  pub rate-codes : (codesGood rateCount rate-is ≡ true)
+      × (ratesOf rateCount rate-is ≡ map (λ c. leastCount (rateCode c)) (totals ++ boxes))
   rate-codes =
       codes-back rateApplication st rate-body rate-length (omega arith) (totals ++ boxes) (settingsBytes s sum) rate-split
       (each-append countLimit totals boxes (v .totals-fit) (v .boxes-fit)) rateCount length-counts
@@ -232,7 +233,8 @@ module _ (st : Stamp) (fits : StampFits 0 st) (beacons : List ℕ) (v : BeaconVa
   pub beacon-length : length beacon-body ≡ bodyBytes
   beacon-length = length-beacon-body beacons (v .beacons-are)
 
-  pub beacon-codes : (codesGood beaconCount beacon-is ≡ true) × (ratesOf beaconCount beacon-is ≡ map (λ c. leastCount (rateCode c)) beacons)
+  pub beacon-codes : (codesGood beaconCount beacon-is ≡ true)
+      × (ratesOf beaconCount beacon-is ≡ map (λ c. leastCount (rateCode c)) beacons)
   beacon-codes =
       codes-back beaconApplication st beacon-body beacon-length (omega arith) beacons (zeros beaconUnused) refl
       (v .beacons-fit) beaconCount (v .beacons-are)

@@ -3,7 +3,6 @@
 use mathlib.Core.Path.{_≡_, refl, sym, ap, _∙_}
 use mathlib.Core.Logic.{_⊎_, inl, inr, ⊎-elim}
 use mathlib.Core.Bool.{Bool, true, false, or-true}
-use mathlib.Core.List.{map}
 use Prim.Native.Nat.{ℕ, zero, suc, _+_, _-_, _*_, _/_, _%_, _^_, _≤_, _<_}
 use native.Mathlib.Omega.{arith}
 use native.Mathlib.Nat.{pow-succ', mul-le-mul, mul-le-mul-right, mul-lt-mul-of-pos-right, eq-or-lt-of-le}
@@ -13,7 +12,7 @@ use lib.Dec.{ltb, eqb}
 use lib.Count.{leadingZeros, leading-top}
 use borrow.Author.Tests.{lt-ltb, le-ltb, ltb-true, ltb-false, leb-true, le-leb, eqb-true}
 use Rattle.wire.proofs.Lists.{and-split, or-split}
-use Rattle.packet.specs.Rate.{countLimit, leastFrom, shift, rateCode, leastCount, codeValid, codeCases}
+use Rattle.packet.specs.Rate.{countLimit, leastFrom, shift, rateCode, leastCount, codeValid}
 
 -- ---- the shift
 
@@ -183,9 +182,3 @@ valid-again c h =
 -- so the least count of a count's code has that code too
 pub code-again : (n : ℕ) → n < countLimit → rateCode (leastCount (rateCode n)) ≡ rateCode n
 code-again n h = valid-again (rateCode n) (code-valid n h)
-
--- ---- the worked cases of document 01: each count has the code beside it
-
-pub code-cases : map (λ (x : ℕ × ℕ). rateCode (x .0)) codeCases ≡ map (λ (x : ℕ × ℕ). x .1) codeCases
-unfolding rateCode shift leastFrom
-code-cases = refl

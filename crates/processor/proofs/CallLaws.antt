@@ -1,12 +1,10 @@
 -- What a call that is carried out (or, of a package, staged) has passed, check by check. Assumes nothing.
 use mathlib.Core.Path.{_≡_, refl, sym, ap, _∙_}
-use mathlib.Core.Bool.{Bool, true, false, _&&_, _||_, not, cond, false≢true}
+use mathlib.Core.Bool.{Bool, true, false, _&&_, not, cond}
 use mathlib.Core.List.{List, [], _∷_}
-use mathlib.Core.Logic.{_⊎_, inl, inr}
 use Prim.Native.Nat.{ℕ, _≤_, _<_}
-use native.Mathlib.Omega.{arith}
-use borrow.Author.Tests.{eqb-true, ltb-true, leb-true, leb-false, not-true, not-false}
-use lib.Dec.{eqb, leb, ltb}
+use borrow.Author.Tests.{eqb-true, ltb-true, leb-true}
+use lib.Dec.{eqb, leb}
 use lib.ListN.{length}
 use Rattle.causes.specs.Causes as cause
 use Rattle.causes.specs.Checks.{Check, numberBy}
@@ -18,20 +16,19 @@ use Rattle.tables.specs.Tables.{tableBytes}
 use Rattle.sample_record.specs.Record.{recordGood}
 use Rattle.sort.specs.declared.event.Event.{Event}
 use Rattle.sort.specs.Event.{inRange}
-use Rattle.load.specs.Staging.{stagingBytes, formed, fits, placeable, receivedSum, computedSum, packageChecks}
+use Rattle.load.specs.Staging.{stagingBytes, formed, fits, placeable, receivedSum, computedSum}
 use Rattle.command.specs.declared.command.Line.{Line}
 use Rattle.command.specs.Asked.{isWrong, isCommand, usesStaging}
 use Rattle.command.specs.Echo.{echoBytes}
 use Rattle.command.specs.Grammar.{bytesOk, lineOf}
-use Rattle.orders.specs.declared.Orders.{Orders}
-use Rattle.orders.specs.Orders.{mostCommands, loadWaits, commandsFull}
+use Rattle.orders.specs.Orders.{loadWaits, commandsFull}
 use Rattle.state.specs.declared.State.{State}
 use Rattle.state.specs.Interval.{mostEvents, mostReadings}
 use Rattle.state.specs.Limits.{withinLimits}
 use Rattle.processor.specs.Event.{eventChecks, eventNumber}
 use Rattle.processor.specs.Reading.{readingChecks, readingNumber}
 use Rattle.processor.specs.Line.{commandChecks, lineChecks, lineNumber}
-use Rattle.processor.specs.Package.{isStaged, packageCallChecks, packageCallNumber}
+use Rattle.processor.specs.Package.{isStaged, packageCallNumber}
 use Rattle.processor.specs.Close.{outBytes, closeChecks, closeNumber}
 
 -- ---- an event
@@ -78,7 +75,8 @@ command-accepts waits full l h =
 
 -- past 1 and 4, the number is that of the command
 pub line-number : (s : State) (line : List ℕ) (echo : ℕ) → withinLimits s ≡ true → eqb echo echoBytes ≡ true → bytesOk line ≡ true
-    → lineNumber s line echo ≡ numberBy (commandChecks (loadWaits (s .orders)) (commandsFull (s .orders)) (lineOf line (s .staging .reach)))
+    → lineNumber s line echo
+    ≡ numberBy (commandChecks (loadWaits (s .orders)) (commandsFull (s .orders)) (lineOf line (s .staging .reach)))
 unfolding lineNumber
 line-number s line echo w e b = rw (w, e, b)
 
@@ -122,7 +120,8 @@ line-early s line echo n e h = go (withinLimits s && eqb echo echoBytes) (bytesO
 pub early-passed : (s : State) (line : List ℕ) (echo n : ℕ) → n ≡ cond (withinLimits s && eqb echo echoBytes) (cond (bytesOk line) 0 4) 1
     → n ≡ 0 → (withinLimits s ≡ true) × (echo ≡ echoBytes) × (bytesOk line ≡ true)
 early-passed s line echo n e z =
-    let p = all-passed ((withinLimits s && eqb echo echoBytes, cause.bufferOrState) ∷ (bytesOk line, cause.lineBytes) ∷ []) refl (sym e ∙ z) in
+    let sound = withinLimits s && eqb echo echoBytes in
+    let p = all-passed ((sound, cause.bufferOrState) ∷ (bytesOk line, cause.lineBytes) ∷ []) refl (sym e ∙ z) in
     let q = and-split _ _ (p .0) in
     (q .0, eqb-true _ _ (q .1), p .1 .0)
 
@@ -139,7 +138,8 @@ pub record Stages (s : State) (p : List ℕ) (staging echo : ℕ) : Type 0 where
   pub is-formed : formed p ≡ true
   pub is-placeable : placeable p (s .staging .next) ≡ true
 
-pub package-stages : (s : State) (p : List ℕ) (staging echo : ℕ) → isStaged (packageCallNumber s p staging echo) ≡ true → Stages s p staging echo
+pub package-stages : (s : State) (p : List ℕ) (staging echo : ℕ) → isStaged (packageCallNumber s p staging echo) ≡ true
+    → Stages s p staging echo
 unfolding packageCallNumber
 package-stages s p staging echo h =
     let first : List Check =
@@ -170,7 +170,8 @@ pub record Closes (s : State) (tables staging : ℕ) (slots : List ℕ) (out : �
   pub out-is : out ≡ outBytes
   pub slots-good : all recordGood slots ≡ true
 
-pub close-closes : (s : State) (tables staging : ℕ) (slots : List ℕ) (out : ℕ) → closeNumber s tables staging slots out ≡ 0 → Closes s tables staging slots out
+pub close-closes : (s : State) (tables staging : ℕ) (slots : List ℕ) (out : ℕ) → closeNumber s tables staging slots out ≡ 0
+    → Closes s tables staging slots out
 unfolding closeNumber
 close-closes s tables staging slots out h =
     let p = all-passed (closeChecks s tables staging slots out) refl h in

@@ -8,7 +8,7 @@ use borrow.Author.Tests.{eqb-true, ltb-true}
 use lib.Dec.{eqb, ltb}
 use lib.ListN.{length, getD}
 use Rattle.causes.specs.Checks.{numberBy}
-use Rattle.wire.specs.Lists.{all, EachBelow}
+use Rattle.wire.specs.Lists.{EachBelow}
 use Rattle.wire.proofs.Lists.{and-right, all-at, choice}
 use Rattle.wire.proofs.Pieces.{table-most}
 use Rattle.settings.specs.declared.Settings.{Settings}
@@ -29,7 +29,7 @@ use Rattle.command.specs.declared.command.Line.the-variants.{Empty, Wrong, Wait
 use Rattle.command.specs.Grammar.{lineOf}
 use Rattle.command.proofs.CommandLaws.{waits-ok, loadat-within}
 use Rattle.orders.specs.declared.Orders.{Orders}
-use Rattle.orders.specs.Orders.{mostCommands, waitingOf, loadWaits, commandsFull, counted, ordersWithin, freshOrders}
+use Rattle.orders.specs.Orders.{mostCommands, waitingOf, loadWaits, commandsFull, counted, ordersWithin}
 use Rattle.orders.proofs.OrderLaws.{orders-are, pushed-within, counted-within, any-reach, fresh-within}
 use Rattle.orders.proofs.RunLaws.{settings-all, addresses-all}
 use Rattle.state.specs.declared.State.{State}
@@ -73,7 +73,8 @@ taken-within i s o n r h =
       boxes-most = tallied-most (i .taken) (i .counts .boxes) (boxesOf o) (boxes-differ o n) (w .boxes-most);
       beacons-most = tallied-most (i .taken) (i .counts .beacons) (beaconsOf o) (beacons-differ o) (w .beacons-most);
       used-taken = omega (arith, p .0, w .used-taken);
-      used-most = used-most (ltb (u .used) slotCount) (priorityOf o && ltb (u .replaced) (s .limhi)) (eligible (s .junk) o) u refl (w .used-most);
+      used-most = used-most (ltb (u .used) slotCount) (priorityOf o && ltb (u .replaced) (s .limhi))
+          (eligible (s .junk) o) u refl (w .used-most);
       replaced-taken = omega (arith, p .1, w .replaced-taken);
       readings-most = w .readings-most;
       totals-most = w .totals-most;
@@ -109,21 +110,25 @@ staging-kept : (s : State) (a : Addresses) → withinLimits s ≡ true → not (
 staging-kept s a h n k =
     let l = state-limits s h in
     state-whole (withStaging s a)
-    record { interval = l .interval; settings = l .settings; orders = any-reach (s .orders) (a .reach) (s .staging .reach) n ∙ l .orders; staging = k }
+    let o = any-reach (s .orders) (a .reach) (s .staging .reach) n in
+    record { interval = l .interval; settings = l .settings; orders = o ∙ l .orders; staging = k }
 
-orders-kept : (s : State) (o : Orders) → withinLimits s ≡ true → ordersWithin o (s .staging .reach) ≡ true → withinLimits (withOrders s o) ≡ true
+orders-kept : (s : State) (o : Orders) → withinLimits s ≡ true → ordersWithin o (s .staging .reach) ≡ true
+    → withinLimits (withOrders s o) ≡ true
 orders-kept s o h k =
     let l = state-limits s h in
     state-whole (withOrders s o) record { interval = l .interval; settings = l .settings; orders = k; staging = l .staging }
 
-addressed-kept : (s : State) (a : Addresses) → withinLimits s ≡ true → not (loadWaits (s .orders)) ≡ true → not (commandsFull (s .orders)) ≡ true
+addressed-kept : (s : State) (a : Addresses) → withinLimits s ≡ true → not (loadWaits (s .orders)) ≡ true
+    → not (commandsFull (s .orders)) ≡ true
     → addressesWithin a ≡ true → withinLimits (withStaging (withOrders s (counted (s .orders))) a) ≡ true
 addressed-kept s a h n f k =
     staging-kept (withOrders s (counted (s .orders))) a
     (orders-kept s (counted (s .orders)) h (counted-within (s .orders) (s .staging .reach) f (state-limits s h .orders))) n k
 
 pub told-kept : (s : State) (bytes : List ℕ) (l : Line) → lineOf bytes (s .staging .reach) ≡ l → length (s .orders .waiting) ≡ mostCommands
-    → numberBy (commandChecks (loadWaits (s .orders)) (commandsFull (s .orders)) l) ≡ 0 → withinLimits s ≡ true → withinLimits (stateTold s l) ≡ true
+    → numberBy (commandChecks (loadWaits (s .orders)) (commandsFull (s .orders)) l) ≡ 0 → withinLimits s ≡ true
+    → withinLimits (stateTold s l) ≡ true
 unfolding stateTold
 told-kept s bytes Empty e n z h = h
 told-kept s bytes Wrong e n z h = h
@@ -159,7 +164,8 @@ closed-kept s h =
     state-whole _
     record {
       interval = fresh-interval;
-      settings = settings-all (s .settings) (s .staging .reach) ws (l .settings) (orders-are (s .orders) (s .staging .reach) (l .orders) .given);
+      settings = settings-all (s .settings) (s .staging .reach) ws (l .settings)
+          (orders-are (s .orders) (s .staging .reach) (l .orders) .given);
       orders = fresh-within _;
       staging = addresses-all (s .staging) ws (l .staging);
     }
@@ -174,7 +180,8 @@ module _ (s : State) (h : withinLimits s ≡ true) where
       choice (λ x. withinLimits x ≡ true) (eqb (eventNumber s (length tables) (length slots) e) 0) _ _
       (λ k.
       let t = event-takes s (length tables) (length slots) e (eqb-true _ 0 k) in
-      interval-kept s _ h (taken-within (s .interval) (s .settings) o (outcome-names (s .settings) tables e) (t .room) (state-limits s h .interval)))
+      interval-kept s _ h
+      (taken-within (s .interval) (s .settings) o (outcome-names (s .settings) tables e) (t .room) (state-limits s h .interval)))
       (λ k. h)
 
   pub reading-kept : (counts : List ℕ) → EachBelow 65536 counts → withinLimits (readingDone s counts .state) ≡ true
@@ -185,7 +192,8 @@ module _ (s : State) (h : withinLimits s ≡ true) where
       (λ k. h)
 
   -- a state has 32 places for commands, as its type says
-  pub line-kept : (bytes echo : List ℕ) → length (s .orders .waiting) ≡ mostCommands → withinLimits (lineDone s bytes echo .answer .state) ≡ true
+  pub line-kept : (bytes echo : List ℕ) → length (s .orders .waiting) ≡ mostCommands
+      → withinLimits (lineDone s bytes echo .answer .state) ≡ true
   unfolding lineDone
   line-kept bytes echo n =
       choice (λ x. withinLimits x ≡ true) (eqb (lineNumber s bytes (length echo)) 0) _ _
@@ -202,7 +210,8 @@ module _ (s : State) (h : withinLimits s ≡ true) where
       staging-kept s _ h (p .no-load) (addresses-after (s .staging) bytes (state-limits s h .staging) f))
       (λ k. h)
 
-  pub close-kept : (time : ℕ) (tables staging slots out : List ℕ) → withinLimits (closeDone s time tables staging slots out .answer .state) ≡ true
+  pub close-kept : (time : ℕ) (tables staging slots out : List ℕ)
+      → withinLimits (closeDone s time tables staging slots out .answer .state) ≡ true
   unfolding closeDone
   close-kept time tables staging slots out =
       choice (λ x. withinLimits x ≡ true) (eqb (closeNumber s (length tables) (length staging) slots (length out)) 0) _ _

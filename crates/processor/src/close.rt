@@ -78,10 +78,14 @@ pub fn close(
     slots: &mut [u32],
     out: &mut [u8],
 ) -> Closed
-    ensures answer { λ r. ⌜ r ≡ closeDone state time (now (tables .entry)) (now (staging .entry)) (now (slots .entry)) (now (out .entry)) .answer ⌝ }
-    ensures tables { λ r. ⌜ now (tables .exit) ≡ closeDone state time (now (tables .entry)) (now (staging .entry)) (now (slots .entry)) (now (out .entry)) .tables ⌝ }
-    ensures slots { λ r. ⌜ now (slots .exit) ≡ closeDone state time (now (tables .entry)) (now (staging .entry)) (now (slots .entry)) (now (out .entry)) .slots ⌝ }
-    ensures out { λ r. ⌜ now (out .exit) ≡ closeDone state time (now (tables .entry)) (now (staging .entry)) (now (slots .entry)) (now (out .entry)) .out ⌝ }
+    ensures answer { λ r. ⌜ r
+        ≡ closeDone state time (now (tables .entry)) (now (staging .entry)) (now (slots .entry)) (now (out .entry)) .answer ⌝ }
+    ensures tables { λ r. ⌜ now (tables .exit)
+        ≡ closeDone state time (now (tables .entry)) (now (staging .entry)) (now (slots .entry)) (now (out .entry)) .tables ⌝ }
+    ensures slots { λ r. ⌜ now (slots .exit)
+        ≡ closeDone state time (now (tables .entry)) (now (staging .entry)) (now (slots .entry)) (now (out .entry)) .slots ⌝ }
+    ensures out { λ r. ⌜ now (out .exit)
+        ≡ closeDone state time (now (tables .entry)) (now (staging .entry)) (now (slots .entry)) (now (out .entry)) .out ⌝ }
 {
     let number = close_number(state, tables.len(), staging.len(), slots, out.len());
     if number != causes::CARRIED_OUT {

@@ -58,8 +58,11 @@ fn take_event(s: State, tables: &[u8], slots: &mut [u32], e: Event) -> State
     requires { ⌜ (length (now tables) ≡ tableBytes) × (length (now slots) ≡ slotCount) ⌝ }
     requires { ⌜ withinLimits s ≡ true ⌝ }
     requires { ⌜ (inRange e ≡ true) × (s .interval .taken < mostEvents) ⌝ }
-    ensures state { λ r. ⌜ r ≡ withInterval s (intervalTaken (s .interval) (s .settings) (outcomeOf (s .settings) (now (tables .entry)) e)) ⌝ }
-    ensures slots { λ r. ⌜ now (slots .exit) ≡ slotsTaken (s .interval .samples) (s .settings) (now (slots .entry)) e (outcomeOf (s .settings) (now (tables .entry)) e) ⌝ }
+    ensures state { λ r. ⌜ r
+        ≡ withInterval s (intervalTaken (s .interval) (s .settings) (outcomeOf (s .settings) (now (tables .entry)) e)) ⌝ }
+    ensures slots { λ r. ⌜ now (slots .exit)
+        ≡ slotsTaken (s .interval .samples) (s .settings) (now (slots .entry)) e
+        (outcomeOf (s .settings) (now (tables .entry)) e) ⌝ }
 {
     let o = sort::sorting::outcome_of(s.settings, tables, e);
     let samples = place_record(s.interval.samples, s.settings, slots, e, o);

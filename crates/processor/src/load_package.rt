@@ -61,7 +61,8 @@ fn stage(s: State, bytes: &[u8], staging: &mut [u8]) -> State
 // One load package: 1, 6, 8, 9, or its bytes staged with 0 or 10.
 pub fn package(state: State, bytes: &[u8], staging: &mut [u8], echo: &mut [u8]) -> Answer
     ensures answer { λ r. ⌜ r ≡ packageDone state (now (bytes .entry)) (now (staging .entry)) (now (echo .entry)) .answer ⌝ }
-    ensures staging { λ r. ⌜ now (staging .exit) ≡ packageDone state (now (bytes .entry)) (now (staging .entry)) (now (echo .entry)) .staging ⌝ }
+    ensures staging { λ r. ⌜ now (staging .exit)
+        ≡ packageDone state (now (bytes .entry)) (now (staging .entry)) (now (echo .entry)) .staging ⌝ }
     ensures echo { λ r. ⌜ now (echo .exit) ≡ packageDone state (now (bytes .entry)) (now (staging .entry)) (now (echo .entry)) .echo ⌝ }
 {
     let number = package_number(state, bytes, staging.len(), echo.len());

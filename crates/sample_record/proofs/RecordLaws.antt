@@ -1,14 +1,13 @@
 -- A packed record gives back its fields, and is zero only without a box. Assumes nothing.
-use mathlib.Core.Path.{_≡_, ap}
-use mathlib.Core.Bool.{Bool, true, false}
-use Prim.Native.Nat.{ℕ, _+_, _*_, _/_, _%_, _^_, _≤_, _<_}
+use mathlib.Core.Path.{_≡_}
+use Prim.Native.Nat.{ℕ, _*_, _/_, _%_, _^_, _≤_, _<_}
 use native.Mathlib.Nat.{mod-eq-of-lt, one-mul}
 use native.Mathlib.Omega.{arith}
 use lib.Pow.{pow-lt}
 use Rattle.sample_record.specs.declared.Sample.{Sample}
 use Rattle.wire.specs.Bits.{bitOf}
 use Rattle.wire.proofs.BitLaws.{bit-small, bit-back}
-use Rattle.sample_record.specs.Record.{SampleFits, recordOf, sampleOf, recordBox, recordGood}
+use Rattle.sample_record.specs.Record.{SampleFits, recordOf, sampleOf, recordBox}
 
 -- one shifted left by fewer than 32 does not wrap
 pub mask : (k : ℕ) → k < 32 → 1 * 2 ^ k % 4294967296 ≡ 2 ^ k

@@ -1,4 +1,3 @@
-pub mod Cases
 pub mod ColumnLaws
 pub mod CountLaws
 pub mod EventLaws

@@ -1,12 +1,12 @@
 -- Signed numbers in the machine: division rounded down by a test of the sign, and the cast of a column. Assumes nothing.
 use mathlib.Core.Path.{_≡_, refl, sym, ap, _∙_, subst}
-use Prim.Native.Nat.{ℕ, zero, suc, _-_, _/_, _≤_, _<_}
+use Prim.Native.Nat.{ℕ, zero, suc, _/_, _≤_, _<_}
 use native.Mathlib.Nat.{div-le-self, lt-of-le-of-lt, lt-of-lt-of-le}
 use native.Mathlib.Omega.{arith}
 use lib.IntN.{ℤ, pos, negsuc, natAbs, _-ℤ_}
 use lib.Signed.{_<ℤ_, _≤ℤ_, nonNeg, quotZ, ltZ, ltZ-yes, ltZ-no}
 use mathlib.Core.Bool.{Bool, true, false, not}
-use lib.Dec.{T, leb→le, ltb→lt, lit<, lit≤}
+use lib.Dec.{T, leb→le, ltb→lt, lit≤}
 use borrow.Author.Tests.{le-leb, lt-leb}
 use mir.Syntax.{w32, w64}
 use mir.Val.{Fits, SFits, toZ, ofZ}

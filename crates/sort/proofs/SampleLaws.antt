@@ -1,7 +1,7 @@
 -- The sample rule goes on from what it left, and placing one record more agrees with it, from any start. Assumes nothing.
-use mathlib.Core.Path.{_≡_, refl, sym, ap, _∙_, subst}
+use mathlib.Core.Path.{_≡_, refl, sym, ap, _∙_}
 use mathlib.Core.Bool.{Bool, true, false, _&&_, cond}
-use mathlib.Core.List.{List, [], _∷_, _++_, map, append-assoc, append-nil}
+use mathlib.Core.List.{List, [], _∷_, _++_, map, append-assoc}
 use Prim.Native.Nat.{ℕ, zero, suc, _+_, _-_, _≤_, _<_, min}
 use native.Mathlib.Nat.{le-of-lt, sub-zero, zero-sub, suc-sub-suc, zero-add}
 use native.Mathlib.Numerals.{add-one}
@@ -160,9 +160,6 @@ module _ {A : Type 0} (p : A → Bool) (N lim : ℕ) where
   pub sampled-is : (l : List A) → sampled p N lim l ≡ take lim (keep p (drop N l)) ++ drop (replacedBy p N lim l) (take N l)
   unfolding sampledFrom replacersFrom
   sampled-is l = rw sub-zero
-
-  pub replaced-most : (l : List A) → replacedBy p N lim l ≤ length l
-  replaced-most l = rw replaced-is (omega (arith, length-keep p (drop N l), length-drop N l))
 
 -- ---- the slots and their use
 

@@ -71,11 +71,17 @@ boxes-differ (OutOfBounds true) h = (omega arith, (refl, (omega arith, (refl, tt
 boxes-differ (OutOfBounds false) h = (omega arith, (refl, (omega arith, (refl, tt))))
 boxes-differ (InCell gain cell) h = cells gain (cell .priority) (cell .ratebox) (h .0)
   where
+    three : (x y b : ℕ) → 1 ≤ x → 1 ≤ y → x < b → y < b → eqb x y ≡ false → 7 ≤ b → Differ (x ∷ y ∷ b ∷ [])
+    three x y b hx hy kx ky d h =
+        let ex = ne-eqb x b (λ e. omega arith) in
+        let ey = ne-eqb y b (λ e. omega arith) in
+        (hx, (rw (d, ex), (hy, (rw ey, (omega arith, (refl, tt))))))
+
     cells : (g p : Bool) (b : ℕ) → 7 ≤ b → Differ (gainBox g ∷ priorityBox p ∷ b ∷ [])
-    cells true true b k = (omega arith, (rw (ne-eqb 4 b (λ e. omega arith)), (omega arith, (rw (ne-eqb 2 b (λ e. omega arith)), (omega arith, (refl, tt))))))
-    cells true false b k = (omega arith, (rw (ne-eqb 4 b (λ e. omega arith)), (omega arith, (rw (ne-eqb 1 b (λ e. omega arith)), (omega arith, (refl, tt))))))
-    cells false true b k = (omega arith, (rw (ne-eqb 3 b (λ e. omega arith)), (omega arith, (rw (ne-eqb 2 b (λ e. omega arith)), (omega arith, (refl, tt))))))
-    cells false false b k = (omega arith, (rw (ne-eqb 3 b (λ e. omega arith)), (omega arith, (rw (ne-eqb 1 b (λ e. omega arith)), (omega arith, (refl, tt))))))
+    cells true true b k = three 4 2 b (omega arith) (omega arith) (omega arith) (omega arith) refl k
+    cells true false b k = three 4 1 b (omega arith) (omega arith) (omega arith) (omega arith) refl k
+    cells false true b k = three 3 2 b (omega arith) (omega arith) (omega arith) (omega arith) refl k
+    cells false false b k = three 3 1 b (omega arith) (omega arith) (omega arith) (omega arith) refl k
 
 pub beacons-differ : (o : Outcome) → Differ (beaconsOf o)
 beacons-differ Discarded = tt

@@ -225,15 +225,22 @@ fn show(s: Settings, tables: &[u8], e: Event)
     newline();
 }
 
+// The event at this place of the list.
+fn show_event(tables: &[u8], at: usize)
+    requires { ⌜ length (now tables) ≡ tableBytes ⌝ }
+    requires { ⌜ at + 5 ≤ 80 ⌝ }
+{
+    let s = settings_of(EVENTS[at + 4]);
+    let e = event_of(EVENTS[at], EVENTS[at + 1], EVENTS[at + 2], EVENTS[at + 3]);
+    show(s, tables, e);
+}
+
 fn show_events(tables: &[u8])
     requires { ⌜ length (now tables) ≡ tableBytes ⌝ }
 {
     let mut i: usize = 0;
     while i < 16 {
-        let at = 5 * i;
-        let s = settings_of(EVENTS[at + 4]);
-        let e = event_of(EVENTS[at], EVENTS[at + 1], EVENTS[at + 2], EVENTS[at + 3]);
-        show(s, tables, e);
+        show_event(tables, 5 * i);
         i += 1;
     }
 }

@@ -4,7 +4,6 @@ use mathlib.Core.Bool.{true}
 use Prim.Native.Nat.{ℕ, _*_, _≤_, _<_}
 use native.Mathlib.Omega.{arith}
 use borrow.Author.Tests.{leb-true, le-leb}
-use lib.ListN.{getD}
 use Rattle.wire.specs.Lists.{all, atMost, EachBelow}
 use Rattle.wire.proofs.Lists.{and-split, all-at}
 use Rattle.settings.specs.Settings.{slotCount, settingsWithin}

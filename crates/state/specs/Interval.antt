@@ -36,7 +36,8 @@ freshInterval = record {
 
 -- one event more, with the counts and the use of the slots that it leaves
 abbrev pub withEvent : Interval → Counts → SlotUse → Interval
-withEvent i counts samples = record { taken = i .taken + 1; counts = counts; samples = samples; readings = i .readings; totals = i .totals }
+withEvent i counts samples =
+    record { taken = i .taken + 1; counts = counts; samples = samples; readings = i .readings; totals = i .totals }
 
 -- one reading more, with the totals that it leaves
 abbrev pub withReading : Interval → (totals : List ℕ) → Interval

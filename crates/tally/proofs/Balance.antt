@@ -2,7 +2,7 @@
 use mathlib.Core.Path.{_≡_, refl, sym, ap, _∙_}
 use mathlib.Core.Bool.{Bool, true, false, _||_}
 use mathlib.Core.List.{List, [], _∷_}
-use Prim.Native.Nat.{ℕ, zero, suc, _+_, _-_, _≤_, _<_}
+use Prim.Native.Nat.{ℕ, zero, suc, _+_, _≤_, _<_}
 use native.Mathlib.Omega.{arith}
 use native.Mathlib.Decide.{ℕ-discrete}
 use borrow.Author.Tests.{eq-eqb, ne-eqb}
@@ -23,7 +23,7 @@ use Rattle.sort.specs.Counts.{gainBox, priorityBox, boxesOf, OutcomeNames}
 use Rattle.sort.proofs.EventLaws.{outcome-names}
 use Rattle.sort.proofs.TalliedLaws.{Differ, either-one, boxes-differ}
 use Rattle.tally.specs.Events.{sorted, inBox, countsBy}
-use Rattle.tally.specs.Demand3.{cells, Balanced}
+use Rattle.tally.specs.Demand3.{Balanced}
 
 -- ---- sums over boxes 7 to 116
 
@@ -34,10 +34,12 @@ total-add : (n : ℕ) (f g : ℕ → ℕ) → total (table n (λ i. f i + g i)) 
 unfolding table total
 total-add zero f g = refl
 total-add (suc n) f g =
-    omega (arith, total-append (table n (λ i. f i + g i)) ((f n + g n) ∷ []), total-append (table n f) (f n ∷ []), total-append (table n g) (g n ∷ []), total-add n f g)
+    let e = total-append (table n (λ i. f i + g i)) ((f n + g n) ∷ []) in
+    omega (arith, e, total-append (table n f) (f n ∷ []), total-append (table n g) (g n ∷ []), total-add n f g)
 
 -- how many numbers of a range are x: none below or above it, one in it
-last : (n a x : ℕ) → total (table (suc n) (λ i. bitOf (eqb (i + a) x))) ≡ total (table n (λ i. bitOf (eqb (i + a) x))) + bitOf (eqb (n + a) x)
+last : (n a x : ℕ)
+    → total (table (suc n) (λ i. bitOf (eqb (i + a) x))) ≡ total (table n (λ i. bitOf (eqb (i + a) x))) + bitOf (eqb (n + a) x)
 unfolding table total
 last n a x = omega (arith, total-append (table n (λ i. bitOf (eqb (i + a) x))) (bitOf (eqb (n + a) x) ∷ []))
 
@@ -55,7 +57,8 @@ within : (n a x : ℕ) → a ≤ x → x < n + a → total (table n (λ i. bitOf
 within zero a x h k = absurd (omega arith)
 within (suc n) a x h k = go (ℕ-discrete (n + a) x) (within n a x h)
   where
-    go : Dec (n + a ≡ x) → (x < n + a → total (table n (λ i. bitOf (eqb (i + a) x))) ≡ 1) → total (table (suc n) (λ i. bitOf (eqb (i + a) x))) ≡ 1
+    go : Dec (n + a ≡ x) → (x < n + a → total (table n (λ i. bitOf (eqb (i + a) x))) ≡ 1)
+        → total (table (suc n) (λ i. bitOf (eqb (i + a) x))) ≡ 1
     go (yes e) ih = omega (arith, last n a x, above n a x (omega arith), ap bitOf (eq-eqb (n + a) x e))
     go (no d) ih = omega (arith, last n a x, ih (omega arith), ap bitOf (ne-eqb (n + a) x d))
 
@@ -105,7 +108,8 @@ priority-low false = omega arith
 abbrev lows : (n : ℕ) (g p : Bool) → ℕ
 lows n g p = bitOf (eqb n (gainBox g) || (eqb n (priorityBox p) || false))
 
-even-lows : (g p : Bool) → (lows 3 g p + lows 4 g p + lows 5 g p ≡ 1) × (lows 3 g p + lows 4 g p ≡ lows 6 g p + 1) × (lows 1 g p + lows 2 g p ≡ 1)
+even-lows : (g p : Bool)
+    → (lows 3 g p + lows 4 g p + lows 5 g p ≡ 1) × (lows 3 g p + lows 4 g p ≡ lows 6 g p + 1) × (lows 1 g p + lows 2 g p ≡ 1)
 even-lows true true = (refl, refl, refl)
 even-lows true false = (refl, refl, refl)
 even-lows false true = (refl, refl, refl)
@@ -117,19 +121,20 @@ even Discarded h =
     record { gains = refl; boxes = ap (λ (n : ℕ). 0 + n) (sym z); priorities = sym z }
 even (OutOfBounds gain) h = go gain
   where
-    none : (x : ℕ) → x < 7 → holds x (6 ∷ []) ≡ false → over (λ k. bitOf (holds k (x ∷ 6 ∷ []))) ≡ 0
-    none x l d = sum-low x (6 ∷ []) l d ∙ sum-low 6 [] (omega arith) refl ∙ sum-none
+    none : (x : ℕ) → x < 7 → holds x (6 ∷ []) ≡ false → 0 ≡ over (λ k. bitOf (holds k (x ∷ 6 ∷ [])))
+    none x l d = sym (sum-low x (6 ∷ []) l d ∙ sum-low 6 [] (omega arith) refl ∙ sum-none)
 
     go : (g : Bool) → Even (OutOfBounds g)
-    go true = record { gains = refl; boxes = ap (λ (n : ℕ). 1 + n) (sym (none 4 (omega arith) refl)); priorities = sym (none 4 (omega arith) refl) }
-    go false = record { gains = refl; boxes = ap (λ (n : ℕ). 1 + n) (sym (none 3 (omega arith) refl)); priorities = sym (none 3 (omega arith) refl) }
+    go true = let z = none 4 (omega arith) refl in record { gains = refl; boxes = ap (λ (n : ℕ). 1 + n) z; priorities = z }
+    go false = let z = none 3 (omega arith) refl in record { gains = refl; boxes = ap (λ (n : ℕ). 1 + n) z; priorities = z }
 even (InCell gain cell) h =
     let b = cell .ratebox in
     let g = gainBox gain in
     let p = priorityBox (cell .priority) in
     let s = sum-cell g p b (gain-low gain) (priority-low (cell .priority)) (h .0) (h .1) (boxes-differ (InCell gain cell) h) in
     let e = even-lows gain (cell .priority) in
-    let l : (n : ℕ) → n < 7 → bitOf (holds n (g ∷ p ∷ b ∷ [])) ≡ bitOf (eqb n g || (eqb n p || false)) = λ n q. low-holds n g p b q (h .0) in
+    let l : (n : ℕ) → n < 7 → bitOf (holds n (g ∷ p ∷ b ∷ [])) ≡ bitOf (eqb n g || (eqb n p || false)) =
+    λ n q. low-holds n g p b q (h .0) in
     record {
       gains = omega (arith, l 3 (omega arith), l 4 (omega arith), l 5 (omega arith), e);
       boxes = omega (arith, l 3 (omega arith), l 4 (omega arith), l 6 (omega arith), e, s);

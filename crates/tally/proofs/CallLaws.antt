@@ -2,15 +2,12 @@
 -- alone. Assumes nothing.
 use mathlib.Core.Path.{_≡_, refl, sym}
 use mathlib.Core.Bool.{Bool, true, false, _||_, false≢true}
-use mathlib.Core.List.{List}
 use Prim.Native.Nat.{ℕ}
 use lib.Dec.{eqb, leb}
 use lib.ListN.{length}
 use Rattle.causes.specs.Causes.{wrongLine}
 use Rattle.wire.proofs.Lists.{decide}
-use Rattle.settings.specs.declared.Settings.{Settings}
 use Rattle.orders.specs.Orders.{mostCommands}
-use Rattle.state.specs.declared.State.{State}
 use Rattle.state.specs.Limits.{withinLimits}
 use Rattle.processor.specs.Event.{eventNumber, eventDone}
 use Rattle.processor.specs.Reading.{readingNumber, readingDone}
@@ -29,7 +26,8 @@ limits-kept w (event t s e) y l h = event-kept (w .state) h (found t (w .tables)
 limits-kept w (reading counts) y l h = reading-kept (w .state) h counts (y .1)
 limits-kept w (line bytes echo) y l h = line-kept (w .state) h bytes echo l
 limits-kept w (load bytes g echo) y l h = package-kept (w .state) h bytes (found g (w .staging)) echo
-limits-kept w (close time t g s out) y l h = close-kept (w .state) h time (found t (w .tables)) (found g (w .staging)) (found s (w .slots)) out
+limits-kept w (close time t g s out) y l h =
+    close-kept (w .state) h time (found t (w .tables)) (found g (w .staging)) (found s (w .slots)) out
 
 -- ---- what is refused, 10 apart, leaves the state and the processor's own buffers
 
@@ -73,7 +71,8 @@ isClose (line bytes echo) = false
 isClose (load bytes g echo) = false
 isClose (close time t g s out) = true
 
-pub between-closes : (w : World) (c : Call) → isClose c ≡ false → (next w c .state .settings ≡ w .state .settings) × (next w c .tables ≡ w .tables)
+pub between-closes : (w : World) (c : Call) → isClose c ≡ false
+    → (next w c .state .settings ≡ w .state .settings) × (next w c .tables ≡ w .tables)
 unfolding next eventDone readingDone lineDone packageDone stateTold
 between-closes w (event t s e) h =
     (decide (eqb (eventNumber (w .state) (length (found t (w .tables))) (length (found s (w .slots))) e) 0) (λ q. rw q) (λ q. rw q), refl)

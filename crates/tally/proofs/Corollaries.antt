@@ -33,9 +33,11 @@ use Rattle.state.specs.Interval.{mostEvents}
 use Rattle.state.proofs.LimitLaws.{state-limits}
 use Rattle.processor.specs.Package.{isStaged}
 use Rattle.processor.specs.Close.{outBytes, packetsOf}
-use Rattle.tally.specs.Calls.{Lent, own, Call, event, reading, line, load, close, answered, closed, World, freshWorld, reply, after, Lawful}
+use Rattle.tally.specs.Calls.{Lent, own, Call, event, reading, line, load, close}
+use Rattle.tally.specs.Calls.{answered, closed, World, freshWorld, reply, after, Lawful}
 use Rattle.tally.specs.Events.{sorted, isEligible, priority, recordFor, eligiblesBy, slotsBy}
-use Rattle.tally.specs.Tally.{Tally, freshTally, eventsOf, countsOf, eligibles, ownSlots, totalsOf, frameOf, lentStaging, loadWaitsFor, numberFor, hasEffect, staged, ended, afterCall, tnext, treply, tafter}
+use Rattle.tally.specs.Tally.{Tally, freshTally, eventsOf, countsOf, eligibles, ownSlots, totalsOf, frameOf}
+use Rattle.tally.specs.Tally.{lentStaging, loadWaitsFor, numberFor, hasEffect, staged, ended, afterCall, tnext, treply, tafter}
 use Rattle.tally.specs.View.{viewState, view}
 use Rattle.tally.specs.Demand3.{All}
 use Rattle.tally.proofs.Invariant.{Inv, limhi-most, orders-most}
@@ -58,7 +60,8 @@ eligible-box junk b h = go (leb 8 b) refl junk (leb 6 b) refl h
 box-good : (x : ℕ) → 6 ≤ recordBox x → recordBox x ≤ 116 → recordGood x ≡ true
 box-good x a b = go (eqb x 0) (le-leb _ _ a) (le-leb _ _ b)
   where
-    go : (z : Bool) → leb 6 (recordBox x) ≡ true → leb (recordBox x) 116 ≡ true → (z || (leb 6 (recordBox x) && leb (recordBox x) 116)) ≡ true
+    go : (z : Bool) → leb 6 (recordBox x) ≡ true → leb (recordBox x) 116 ≡ true
+        → (z || (leb 6 (recordBox x) && leb (recordBox x) 116)) ≡ true
     go true a b = refl
     go false a b = rw (a, b)
 
@@ -70,7 +73,8 @@ module _ (s : Settings) (tables : List ℕ) where
       let q = event-box e o r n in
       box-good (recordFor s tables e) (rw q (eligible-box (s .junk) (boxOf o) h)) (rw q (box-fits o n))
 
-  good-records : (l : List Event) → All (λ e. (inRange e ≡ true) × (isEligible s tables e ≡ true)) l → all recordGood (map (recordFor s tables) l) ≡ true
+  good-records : (l : List Event) → All (λ e. (inRange e ≡ true) × (isEligible s tables e ≡ true)) l
+      → all recordGood (map (recordFor s tables) l) ≡ true
   good-records [] h = refl
   good-records (e ∷ es) h = rw (record-good e (h .0 .0) (h .0 .1)) (good-records es (h .1))
 
@@ -99,7 +103,8 @@ pub record Sized (t : Tally) : Type 0 where
 same-sizes : (t u : Tally) → u .tables ≡ t .tables → u .staging ≡ t .staging → Sized t → Sized u
 same-sizes t u a b z = record { tables-are = ap length a ∙ z .tables-are; staging-is = ap length b ∙ z .staging-is }
 
-staged-sized : (t : Tally) (bytes : List ℕ) (staging : Lent) (echo : List ℕ) → Sized t → isStaged (numberFor t (load bytes staging echo)) ≡ true → Sized (staged t bytes)
+staged-sized : (t : Tally) (bytes : List ℕ) (staging : Lent) (echo : List ℕ) → Sized t
+    → isStaged (numberFor t (load bytes staging echo)) ≡ true → Sized (staged t bytes)
 unfolding numberFor
 staged-sized t bytes staging echo z k =
     let first : List Check =
@@ -117,9 +122,12 @@ staged-sized t bytes staging echo z k =
 ended-sized : (t : Tally) → Inv t → Sized t → Sized (ended t)
 ended-sized t v z =
     let r = addresses-are (t .addresses) (state-limits (viewState t) (v .limits) .staging) in
-    let g = subst (λ ws. all (givenAt (t .addresses .reach)) ws ≡ true) (waiting-with (t .told .accepted) (t .told .waiting)) (orders-most t v .given) in
+    let o = t .told in
+    let n = t .addresses .reach in
+    let g = subst (λ ws. all (givenAt n) ws ≡ true) (waiting-with (o .accepted) (o .waiting)) (orders-most t v .given) in
+    let f : n ≤ length (t .staging) = omega (arith, r .1, z .staging-is) in
     record {
-      tables-are = length-tables-after-all (t .staging) (t .addresses .reach) (omega (arith, r .1, z .staging-is)) (t .tables) (t .told .waiting) (z .tables-are) g;
+      tables-are = length-tables-after-all (t .staging) n f (t .tables) (o .waiting) (z .tables-are) g;
       staging-is = z .staging-is;
     }
 
@@ -146,7 +154,8 @@ inv-after (c ∷ cs) t v l = inv-after cs (tnext t c) (next-inv t c cs v l) (nex
 
 -- ---- the next call after any lawful list, from tables and staging of the right length
 
-module _ (tables staging : List ℕ) (lt : length tables ≡ tableBytes) (ls : length staging ≡ stagingBytes) (cs : List Call) (l : Lawful (freshWorld tables staging) cs) where
+module _ (tables staging : List ℕ) (lt : length tables ≡ tableBytes) (ls : length staging ≡ stagingBytes) (cs : List Call)
+    (l : Lawful (freshWorld tables staging) cs) where
   -- the tally at that moment
   abbrev pub now : Tally
   now = tafter (freshTally tables staging) cs

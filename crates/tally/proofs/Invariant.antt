@@ -1,10 +1,9 @@
--- What holds of the tally at every moment: the state that it stands for is within its limits, and its events are in range. Assumes nothing.
+-- What holds of the tally at every moment: its state is within its limits, and its events are in range. Assumes nothing.
 use mathlib.Core.Path.{_≡_}
 use mathlib.Core.Bool.{true}
 use mathlib.Core.List.{List, [], _∷_, _++_}
-use Prim.Native.Nat.{_≤_, _<_}
+use Prim.Native.Nat.{_≤_}
 use borrow.Author.Tests.{leb-true}
-use lib.ListN.{length}
 use Rattle.settings.specs.Settings.{slotCount}
 use Rattle.sort.specs.Event.{inRange}
 use Rattle.orders.specs.Orders.{ordersWith}

@@ -162,7 +162,8 @@ module _ {A : Type 0} (d : A) where
   unfolding range
   shifted pre [] = refl
   shifted pre (x ∷ xs) =
-      ap₂ (λ (a : A) (r : List A). a ∷ r) (getD-append-seam pre x xs d) (simp (append-snoc, length-append, add-one) at (shifted (pre ++ x ∷ []) xs))
+      ap₂ (λ (a : A) (r : List A). a ∷ r) (getD-append-seam pre x xs d)
+      (simp (append-snoc, length-append, add-one) at (shifted (pre ++ x ∷ []) xs))
 
   at-places : (l : List A) → map (λ i. getD l i d) (range 0 (length l)) ≡ l
   at-places l = shifted [] l
@@ -213,12 +214,13 @@ samples-differ t v =
     let s = t .settings in
     let es = eventsOf t in
     let places = samplePlaces s (t .tables) es in
-    let Good : ℕ → Type 0 = λ i. (i < length es) × (isEligible s (t .tables) (eventAt es i) ≡ true) in
+    let Fit : ℕ → Type 0 = λ i. isEligible s (t .tables) (eventAt es i) ≡ true in
+    let Good : ℕ → Type 0 = λ i. (i < length es) × Fit i in
     record {
       places = places;
       places-differ = Distinct-sampled _ slotCount (s .limhi) _ (Distinct-keep _ (range 0 (length es)) (Distinct-range 0 (length es)));
       places-below = All-map Good (λ i. i < length es) (λ i p. p .0) places (places-good s (t .tables) es);
-      places-eligible = All-map Good (λ i. isEligible s (t .tables) (eventAt es i) ≡ true) (λ i p. p .1) places (places-good s (t .tables) es);
+      places-eligible = All-map Good Fit (λ i p. p .1) places (places-good s (t .tables) es);
       places-many = sym (length-map places (eventAt es))
           ∙ ap length (places-events s (t .tables) es)
           ∙ length-sampled (priority s (t .tables)) slotCount (s .limhi) (eligibles t) (limhi-most t v);

@@ -1,6 +1,6 @@
 -- One call: what the processor answers is what the tally answers. Assumes nothing.
 use mathlib.Core.Path.{_≡_, refl, ap, _∙_}
-use mathlib.Core.Bool.{true, _&&_}
+use mathlib.Core.Bool.{_&&_}
 use mathlib.Core.List.{List, [], _∷_, map}
 use Prim.Native.Nat.{ℕ, suc, min}
 use borrow.Author.Tests.{lt-ltb, eqb-true}
@@ -19,10 +19,10 @@ use Rattle.processor.specs.Event.{eventDone}
 use Rattle.processor.specs.Reading.{readingDone}
 use Rattle.processor.specs.Line.{lineDone}
 use Rattle.processor.specs.Package.{packageDone}
-use Rattle.processor.specs.Close.{packetsOf, closeDone}
-use Rattle.tally.specs.Calls.{Call, event, reading, line, load, close, answered, closed, isOwn, reply, LawfulCall}
-use Rattle.tally.specs.Events.{sorted, priority, recordFor, eligiblesBy, slotsBy}
-use Rattle.tally.specs.Tally.{Tally, eventsOf, countsOf, eligibles, ownSlots, totalsOf, frameOf, numberFor, treply}
+use Rattle.processor.specs.Close.{closeDone}
+use Rattle.tally.specs.Calls.{Call, event, reading, line, load, close, answered, isOwn, reply, LawfulCall}
+use Rattle.tally.specs.Events.{sorted, priority, recordFor, slotsBy}
+use Rattle.tally.specs.Tally.{Tally, eligibles, ownSlots, numberFor, treply}
 use Rattle.tally.specs.View.{view}
 use Rattle.tally.proofs.Invariant.{Inv, limhi-most}
 use Rattle.tally.proofs.Steps.{own-found, owned, event-number, reading-number, line-number, load-number, close-number}
@@ -30,11 +30,13 @@ use Rattle.tally.proofs.Steps.{own-found, owned, event-number, reading-
 -- ---- filled slots
 
 -- no event makes zero, so as many slots are filled as there are records
-records-filled : (s : Settings) (tables : List ℕ) (l : List Event) → filled (map (recordFor s tables) l) ≡ length (map (recordFor s tables) l)
+records-filled : (s : Settings) (tables : List ℕ) (l : List Event)
+    → filled (map (recordFor s tables) l) ≡ length (map (recordFor s tables) l)
 unfolding filled keep
 records-filled s tables [] = refl
 records-filled s tables (e ∷ es) =
-    rw (lt-ltb 0 (recordFor s tables e) (event-nonzero e (sorted s tables e) (outcome-names s tables e))) (ap suc (records-filled s tables es))
+    let p = event-nonzero e (sorted s tables e) (outcome-names s tables e) in
+    rw (lt-ltb 0 (recordFor s tables e) p) (ap suc (records-filled s tables es))
 
 pub filled-slots : (t : Tally) → Inv t → filled (ownSlots t) ≡ min slotCount (length (eligibles t))
 unfolding slotsBy slotsOf

@@ -1,12 +1,12 @@
 -- The state and the slots that the tally stands for, after each thing that a call does to it. Assumes nothing.
 use mathlib.Core.Path.{_≡_, refl, sym, ap, _∙_}
-use mathlib.Core.Bool.{Bool, true, false, _&&_, not, cond}
+use mathlib.Core.Bool.{Bool, true, false, cond}
 use mathlib.Core.List.{List, [], _∷_, _++_, map, append-nil}
-use Prim.Native.Nat.{ℕ, _+_, _%_, _≤_, _<_, min}
+use Prim.Native.Nat.{ℕ, _+_, _%_, _≤_, _<_}
 use native.Mathlib.Omega.{arith}
 use lib.ListN.{length, getD, length-append}
 use Rattle.wire.specs.Bytes.{total, zeros}
-use Rattle.wire.specs.Lists.{holds, joinIf, keep}
+use Rattle.wire.specs.Lists.{joinIf, keep}
 use Rattle.wire.specs.Pieces.{table, padded}
 use Rattle.wire.proofs.Lists.{keep-append, keep-one}
 use Rattle.wire.proofs.Pieces.{table-at, same-table, table-zeros}
@@ -14,12 +14,11 @@ use Rattle.settings.specs.declared.Settings.{Settings}
 use Rattle.settings.specs.Settings.{slotCount}
 use Rattle.sort.specs.declared.event.Event.{Event}
 use Rattle.sort.specs.declared.slots.SlotUse.{SlotUse}
-use Rattle.sort.specs.Counts.{boxesOf, beaconsOf}
 use Rattle.sort.specs.Samples.{Place, none, placeOf, slotsAfter, useAfter, slotsOf, useOf}
 use Rattle.sort.proofs.SampleLaws.{place-agrees, replaced-few, sampled-few}
 use Rattle.command.specs.declared.command.Line.{Line}
 use Rattle.command.specs.declared.command.Line.the-variants.{Empty, Wrong, Waits, LoadZero, LoadAt}
-use Rattle.orders.specs.Orders.{mostCommands, freshOrders, waitingOf, ordersWith, loadWaits, commandsFull, counted}
+use Rattle.orders.specs.Orders.{freshOrders, ordersWith}
 use Rattle.orders.specs.Run.{settingsAfterAll, addressesAfterAll}
 use Rattle.orders.proofs.OrderLaws.{room, waiting-with, pushed-with}
 use Rattle.state.specs.Interval.{noCounts, freshInterval, withReading}
@@ -31,7 +30,7 @@ use Rattle.processor.specs.Line.{commandChecks, stateTold}
 use Rattle.processor.specs.Close.{stateClosed}
 use Rattle.processor.proofs.CallLaws.{command-accepts}
 use Rattle.tally.specs.Events.{sorted, inBox, inBeacon, countsBy, isEligible, eligiblesBy, priority, recordFor, slotsBy, useBy}
-use Rattle.tally.specs.Tally.{Gathered, noneGathered, Tally, totalsBy, eventsOf, loadWaitsFor, fullFor, heard, ended}
+use Rattle.tally.specs.Tally.{noneGathered, Tally, totalsBy, loadWaitsFor, fullFor, heard, ended}
 use Rattle.tally.specs.View.{viewInterval, viewState}
 use Rattle.tally.proofs.CountLaws.{counts-snoc}
 use Rattle.tally.proofs.Invariant.{Inv, orders-most}
@@ -44,33 +43,37 @@ module _ (s : Settings) (tables : List ℕ) (es : List Event) (e : Event) (q : s
   eligibles-snoc = rw (keep-append, keep-one)
 
   -- what the slots and their use are after the event, by whether it is eligible
+  abbrev slotsIn : List Event → List ℕ
+  slotsIn = slotsOf (priority s tables) (recordFor s tables) slotCount (s .limhi)
+
+  abbrev useIn : List Event → SlotUse
+  useIn = useOf (priority s tables) (recordFor s tables) slotCount (s .limhi)
+
   abbrev Went : Place → List Event → Type 0
   Went p l =
-      (slotsAfter p (slotsBy s tables es) (useBy s tables es) (recordFor s tables e) ≡ slotsOf (priority s tables) (recordFor s tables) slotCount (s .limhi) l)
-      × (useAfter p (useBy s tables es) ≡ useOf (priority s tables) (recordFor s tables) slotCount (s .limhi) l)
+      (slotsAfter p (slotsBy s tables es) (useBy s tables es) (recordFor s tables e) ≡ slotsIn l)
+      × (useAfter p (useBy s tables es) ≡ useIn l)
 
   went-by : (b : Bool)
-      → Went (cond b (placeOf slotCount (useBy s tables es) (s .limhi) (priority s tables e)) none) (eligiblesBy s tables es ++ joinIf b e [])
+      → Went (cond b (placeOf slotCount (useBy s tables es) (s .limhi) (priority s tables e)) none)
+      (eligiblesBy s tables es ++ joinIf b e [])
   unfolding slotsBy useBy
   went-by true = place-agrees (priority s tables) (recordFor s tables) slotCount (s .limhi) q (eligiblesBy s tables es) e
   went-by false = (
-    ap (slotsOf (priority s tables) (recordFor s tables) slotCount (s .limhi)) (sym (append-nil (eligiblesBy s tables es))),
-    ap (useOf (priority s tables) (recordFor s tables) slotCount (s .limhi)) (sym (append-nil (eligiblesBy s tables es))),
+    ap slotsIn (sym (append-nil (eligiblesBy s tables es))),
+    ap useIn (sym (append-nil (eligiblesBy s tables es))),
   )
 
   pub event-slots : slotsTaken (useBy s tables es) s (slotsBy s tables es) e (sorted s tables e) ≡ slotsBy s tables (es ++ e ∷ [])
   unfolding slotsBy
-  event-slots =
-      went-by (isEligible s tables e) .0
-      ∙ ap (slotsOf (priority s tables) (recordFor s tables) slotCount (s .limhi)) (sym eligibles-snoc)
+  event-slots = went-by (isEligible s tables e) .0 ∙ ap slotsIn (sym eligibles-snoc)
 
   event-use : useAfter (placeFor (useBy s tables es) s (sorted s tables e)) (useBy s tables es) ≡ useBy s tables (es ++ e ∷ [])
   unfolding useBy
-  event-use =
-      went-by (isEligible s tables e) .1
-      ∙ ap (useOf (priority s tables) (recordFor s tables) slotCount (s .limhi)) (sym eligibles-snoc)
+  event-use = went-by (isEligible s tables e) .1 ∙ ap useIn (sym eligibles-snoc)
 
-  pub event-interval : (rs : List (List ℕ)) → intervalTaken (viewInterval s tables (record { events = es; readings = rs })) s (sorted s tables e)
+  pub event-interval : (rs : List (List ℕ))
+      → intervalTaken (viewInterval s tables (record { events = es; readings = rs })) s (sorted s tables e)
       ≡ viewInterval s tables (record { events = es ++ e ∷ []; readings = rs })
   unfolding intervalTaken
   event-interval rs = λ i. record {
@@ -92,7 +95,8 @@ totals-snoc : (rs : List (List ℕ)) (counts : List ℕ) → addedTotals (totals
 unfolding totalsBy
 totals-snoc rs counts = same-table 8 _ _ sums
   where
-    sums : (k : ℕ) → k < 8 → getD (table 8 (λ k. total (map (λ r. getD r k 0) rs))) k 0 + getD counts k 0 ≡ total (map (λ r. getD r k 0) (rs ++ counts ∷ []))
+    sums : (k : ℕ) → k < 8
+        → getD (table 8 (λ k. total (map (λ r. getD r k 0) rs))) k 0 + getD counts k 0 ≡ total (map (λ r. getD r k 0) (rs ++ counts ∷ []))
     sums k h =
         ap (λ (n : ℕ). n + getD counts k 0) (table-at (λ k. total (map (λ r. getD r k 0) rs)) 8 k h)
         ∙ total-snoc (λ r. getD r k 0) rs counts
@@ -110,7 +114,8 @@ reading-interval s tables es rs counts = λ i. record {
 
 -- ---- an accepted line
 
-pub heard-state : (t : Tally) → Inv t → (l : Line) → numberBy (commandChecks (loadWaitsFor t) (fullFor t) l) ≡ 0 → stateTold (viewState t) l ≡ viewState (heard t l)
+pub heard-state : (t : Tally) → Inv t → (l : Line) → numberBy (commandChecks (loadWaitsFor t) (fullFor t) l) ≡ 0
+    → stateTold (viewState t) l ≡ viewState (heard t l)
 unfolding stateTold
 heard-state t v Empty h = refl
 heard-state t v Wrong h = refl
@@ -155,7 +160,7 @@ no-orders = refl
 pub closed-state : (t : Tally) → stateClosed (viewState t) ≡ viewState (ended t)
 unfolding stateClosed
 closed-state t =
-    let w : waitingOf (ordersWith (t .told .accepted) (t .told .waiting)) ≡ t .told .waiting = waiting-with (t .told .accepted) (t .told .waiting) in
+    let w = waiting-with (t .told .accepted) (t .told .waiting) in
     λ i. record {
       frame = frames i;
       interval = no-interval (ended t .settings) (ended t .tables) i;

@@ -1,6 +1,6 @@
 -- One call: its number, and the processor's world after it, are the tally's. Assumes nothing.
-use mathlib.Core.Path.{_≡_, refl, sym, ap, _∙_}
-use mathlib.Core.Bool.{Bool, true, false, _&&_, cond, false≢true}
+use mathlib.Core.Path.{_≡_, refl, ap, _∙_}
+use mathlib.Core.Bool.{true, _&&_, false≢true}
 use mathlib.Core.List.{List, [], _∷_}
 use Prim.Native.Nat.{ℕ}
 use borrow.Author.Tests.{eqb-true, eq-eqb}
@@ -21,8 +21,10 @@ use Rattle.processor.specs.Reading.{readingNumber, readingDone}
 use Rattle.processor.specs.Line.{commandChecks, lineNumber, lineDone}
 use Rattle.processor.specs.Package.{isStaged, packageCallNumber, packageDone}
 use Rattle.processor.specs.Close.{closeNumber, closeDone}
-use Rattle.tally.specs.Calls.{Lent, own, other, found, kept, isOwn, Call, event, reading, line, load, close, numberOf, World, next, reply, owns, LawfulCall}
-use Rattle.tally.specs.Tally.{Tally, eventsOf, ownSlots, lentTables, lentStaging, lentSlots, loadWaitsFor, fullFor, lineFor, numberFor, hasEffect, ended, tnext}
+use Rattle.tally.specs.Calls.{Lent, own, other, found, kept, isOwn, Call, event, reading}
+use Rattle.tally.specs.Calls.{line, load, close, numberOf, next, reply, owns, LawfulCall}
+use Rattle.tally.specs.Tally.{Tally, eventsOf, ownSlots, lentTables, lentStaging, lentSlots}
+use Rattle.tally.specs.Tally.{loadWaitsFor, fullFor, lineFor, numberFor, hasEffect, ended, tnext}
 use Rattle.tally.specs.View.{viewState, view}
 use Rattle.tally.proofs.Invariant.{Inv, limhi-most}
 use Rattle.tally.proofs.States.{event-slots, event-interval, reading-interval, heard-state, no-slots, closed-state}
@@ -88,7 +90,8 @@ effect-staged (load bytes staging echo) n h = h
 effect-staged (close time tables staging slots out) n h = zero-staged n h
 
 -- a line that is accepted passes its command's checks
-line-heard : (t : Tally) (bytes echo : List ℕ) → numberFor t (line bytes echo) ≡ 0 → numberBy (commandChecks (loadWaitsFor t) (fullFor t) (lineFor t bytes)) ≡ 0
+line-heard : (t : Tally) (bytes echo : List ℕ) → numberFor t (line bytes echo) ≡ 0
+    → numberBy (commandChecks (loadWaitsFor t) (fullFor t) (lineFor t bytes)) ≡ 0
 unfolding numberFor
 line-heard t bytes echo h =
     let p = passed-first (λ n. eqb n 0) ((eqb (length echo) echoBytes, cause.bufferOrState) ∷ (bytesOk bytes, cause.lineBytes) ∷ [])
@@ -112,7 +115,8 @@ module _ (t : Tally) (v : Inv t) where
       let b = and-right (isOwn tables) (isOwn slots) o in
       rw (q, own-kept slots (ownSlots t) _ b, own-found tables (t .tables) a, own-found slots (ownSlots t) b)
       (λ i. record {
-        state = withInterval (viewState t) (event-interval (t .settings) (t .tables) (eventsOf t) e (limhi-most t v) (t .gathered .readings) i);
+        state = withInterval (viewState t)
+            (event-interval (t .settings) (t .tables) (eventsOf t) e (limhi-most t v) (t .gathered .readings) i);
         tables = t .tables;
         staging = t .staging;
         slots = event-slots (t .settings) (t .tables) (eventsOf t) e (limhi-most t v) i;

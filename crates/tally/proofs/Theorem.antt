@@ -2,7 +2,7 @@
 use mathlib.Core.Path.{_≡_, refl, sym, ap, ap₂, _∙_, subst}
 use mathlib.Core.Bool.{Bool, true, false, _&&_, cond, false≢true}
 use mathlib.Core.List.{List, [], _∷_}
-use Prim.Native.Nat.{ℕ, _+_, _≤_}
+use Prim.Native.Nat.{ℕ, _+_}
 use native.Mathlib.Nat.{zero-add}
 use native.Mathlib.Omega.{arith}
 use borrow.Author.Tests.{eqb-true}
@@ -24,10 +24,13 @@ use Rattle.processor.specs.Line.{lineNumber, stateTold, lineDone}
 use Rattle.processor.specs.Package.{isStaged, packageCallNumber, packageDone}
 use Rattle.processor.specs.Close.{closeNumber, stateClosed, closeDone}
 use Rattle.processor.proofs.LimitsKept.{fresh-kept}
-use Rattle.tally.specs.Calls.{Lent, own, other, found, isOwn, Call, event, reading, line, load, close, Reply, closed, numberOf, World, freshWorld, next, reply, replies, after, owns, Typed, LawfulCall, Lawful}
-use Rattle.tally.specs.Tally.{Tally, freshTally, eventsOf, checksFor, numberFor, hasEffect, afterCall, tnext, treply, treplies, tafter, countsOf}
+use Rattle.tally.specs.Calls.{Lent, own, other, found, isOwn, Call, event, reading, line, load, close}
+use Rattle.tally.specs.Calls.{Reply, World, freshWorld, next, reply, replies, after, Typed, LawfulCall, Lawful}
+use Rattle.tally.specs.Tally.{Tally, freshTally, eventsOf, checksFor, numberFor}
+use Rattle.tally.specs.Tally.{hasEffect, afterCall, tnext, treply, treplies, tafter}
 use Rattle.tally.specs.View.{viewState, view}
-use Rattle.tally.specs.Demand3.{All, Balanced, Moment, Moments, ClosedRight, Intervals, ClosedBalanced, takenOne, takenCalls, takenIn, takenClosed, OtherIs, OthersKept, EachKept, demand3}
+use Rattle.tally.specs.Demand3.{All, Balanced, Moment, Moments, ClosedRight, Intervals, ClosedBalanced, takenOne}
+use Rattle.tally.specs.Demand3.{takenCalls, takenIn, takenClosed, OtherIs, OthersKept, EachKept, demand3}
 use Rattle.tally.proofs.Balance.{counts-balanced}
 use Rattle.tally.proofs.CallLaws.{limits-kept}
 use Rattle.tally.proofs.Intervals.{reply-right}
@@ -46,7 +49,8 @@ module _ (t : Tally) (v : Inv t) where
   after-range : (c : Call) → hasEffect c (numberFor t c) ≡ true → All (λ e. inRange e ≡ true) (eventsOf (afterCall t c))
   unfolding numberFor
   after-range (event tables slots e) q =
-      all-snoc (λ x. inRange x ≡ true) (eventsOf t) e (v .range) (all-passed (checksFor t (event tables slots e)) refl (eqb-true _ 0 q) .1 .0)
+      all-snoc (λ x. inRange x ≡ true) (eventsOf t) e (v .range)
+      (all-passed (checksFor t (event tables slots e)) refl (eqb-true _ 0 q) .1 .0)
   after-range (reading counts) q = v .range
   after-range (line bytes echo) q = v .range
   after-range (load bytes staging echo) q = v .range
@@ -83,7 +87,8 @@ unfolding replies treplies
 all-answers [] t v l = refl
 all-answers (c ∷ cs) t v l =
     ap₂ (λ (r : Reply) (rs : List Reply). r ∷ rs) (step-reply t v c (l .1 .0))
-    (ap (λ (w : World). replies w cs) (step-next t v c (l .1 .0)) ∙ all-answers cs (tnext t c) (next-inv t c cs v l) (next-lawful t c cs v l))
+    (ap (λ (w : World). replies w cs) (step-next t v c (l .1 .0))
+    ∙ all-answers cs (tnext t c) (next-inv t c cs v l) (next-lawful t c cs v l))
 
 all-ending : (cs : List Call) (t : Tally) → Inv t → Lawful (view t) cs → after (view t) cs ≡ view (tafter t cs)
 unfolding after tafter
@@ -95,7 +100,8 @@ all-moments : (cs : List Call) (t : Tally) → Inv t → Lawful (view t) cs → 
 all-moments [] t v l = moment t v
 all-moments (c ∷ cs) t v l = (
   moment t v,
-  subst (λ w. Moments (tnext t c) w cs) (sym (step-next t v c (l .1 .0))) (all-moments cs (tnext t c) (next-inv t c cs v l) (next-lawful t c cs v l)),
+  subst (λ w. Moments (tnext t c) w cs) (sym (step-next t v c (l .1 .0)))
+      (all-moments cs (tnext t c) (next-inv t c cs v l) (next-lawful t c cs v l)),
 )
 
 -- ---- closed intervals
@@ -128,17 +134,21 @@ replies-balanced (c ∷ cs) t = (reply-balanced t c, replies-balanced cs (tnext 
 
 -- ---- events answered 0
 
-taken-step : (w : World) (c : Call) → w .state .interval .taken + takenOne c (reply w c) ≡ takenIn (reply w c) + next w c .state .interval .taken
+taken-step : (w : World) (c : Call)
+    → w .state .interval .taken + takenOne c (reply w c) ≡ takenIn (reply w c) + next w c .state .interval .taken
 unfolding reply next eventDone intervalTaken readingDone lineDone stateTold packageDone closeDone stateClosed
 taken-step w (event t s e) =
-    decide (eqb (eventNumber (w .state) (length (found t (w .tables))) (length (found s (w .slots))) e) 0) (λ q. rw q (omega arith)) (λ q. rw q (omega arith))
-taken-step w (reading counts) = decide (eqb (readingNumber (w .state)) 0) (λ q. rw q (omega arith)) (λ q. rw q (omega arith))
-taken-step w (line bytes echo) = decide (eqb (lineNumber (w .state) bytes (length echo)) 0) (λ q. rw q (omega arith)) (λ q. rw q (omega arith))
-taken-step w (load bytes g echo) =
-    decide (isStaged (packageCallNumber (w .state) bytes (length (found g (w .staging))) (length echo))) (λ q. rw q (omega arith)) (λ q. rw q (omega arith))
-taken-step w (close time t g s out) =
-    decide (eqb (closeNumber (w .state) (length (found t (w .tables))) (length (found g (w .staging))) (found s (w .slots)) (length out)) 0)
+    decide (eqb (eventNumber (w .state) (length (found t (w .tables))) (length (found s (w .slots))) e) 0)
     (λ q. rw q (omega arith)) (λ q. rw q (omega arith))
+taken-step w (reading counts) = decide (eqb (readingNumber (w .state)) 0) (λ q. rw q (omega arith)) (λ q. rw q (omega arith))
+taken-step w (line bytes echo) =
+    decide (eqb (lineNumber (w .state) bytes (length echo)) 0) (λ q. rw q (omega arith)) (λ q. rw q (omega arith))
+taken-step w (load bytes g echo) =
+    decide (isStaged (packageCallNumber (w .state) bytes (length (found g (w .staging))) (length echo)))
+    (λ q. rw q (omega arith)) (λ q. rw q (omega arith))
+taken-step w (close time t g s out) =
+    let n = closeNumber (w .state) (length (found t (w .tables))) (length (found g (w .staging))) (found s (w .slots)) (length out) in
+    decide (eqb n 0) (λ q. rw q (omega arith)) (λ q. rw q (omega arith))
 
 taken-all : (cs : List Call) (w : World)
     → w .state .interval .taken + takenCalls cs (replies w cs) ≡ takenClosed (replies w cs) + after w cs .state .interval .taken
@@ -182,7 +192,13 @@ module _ (tables staging : List ℕ) where
 
   fresh-state : freshState ≡ viewState start
   unfolding freshState
-  fresh-state = λ i. record { frame = 0; interval = no-interval freshSettings tables i; settings = freshSettings; orders = no-orders i; staging = freshAddresses }
+  fresh-state = λ i. record {
+    frame = 0;
+    interval = no-interval freshSettings tables i;
+    settings = freshSettings;
+    orders = no-orders i;
+    staging = freshAddresses;
+  }
 
   pub fresh-view : freshWorld tables staging ≡ view start
   unfolding view

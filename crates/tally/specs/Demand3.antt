@@ -17,7 +17,8 @@ use Rattle.sort.specs.Samples.{filled}
 use Rattle.packet.specs.Packet.{packetBytes}
 use Rattle.state.specs.Limits.{withinLimits}
 use Rattle.processor.specs.Close.{samplePackets}
-use Rattle.tally.specs.Calls.{Lent, own, other, Call, event, reading, line, load, close, Reply, answered, echoed, closed, numberOf, World, freshWorld, eventIn, loadIn, closeIn, next, reply, replies, after, Lawful}
+use Rattle.tally.specs.Calls.{Lent, own, other, Call, event, reading, line, load, close, Reply, answered, echoed}
+use Rattle.tally.specs.Calls.{closed, numberOf, World, freshWorld, eventIn, loadIn, closeIn, next, reply, replies, after, Lawful}
 use Rattle.tally.specs.Events.{isEligible, recordFor}
 use Rattle.tally.specs.Tally.{Tally, freshTally, eventsOf, countsOf, eligibles, ownSlots, tnext, treplies, tafter}
 use Rattle.tally.specs.View.{view}

@@ -27,7 +27,8 @@ take-put vs xs at m e h =
     take-at (take at xs ++ vs) (drop (at + length vs) xs) m (simp (length-append, length-take) (omega arith))
 
 -- two runs, the second where the first ends, are one run
-pub put-put : (xs : List ℕ) (at : ℕ) (a b : List ℕ) (n : ℕ) → at + length a ≡ n → n ≤ length xs → put (put xs at a) n b ≡ put xs at (a ++ b)
+pub put-put : (xs : List ℕ) (at : ℕ) (a b : List ℕ) (n : ℕ) → at + length a ≡ n → n ≤ length xs
+    → put (put xs at a) n b ≡ put xs at (a ++ b)
 unfolding put
 put-put xs at a b n e h =
     let p : List ℕ = take at xs ++ a in
@@ -42,7 +43,8 @@ put-put xs at a b n e h =
     (λ k. t k ++ b ++ d k) ∙ ap (λ (l : List ℕ). l ++ drop (at + length (a ++ b)) xs) (append-assoc (take at xs) a b)
 
 -- a run that was put, and then one put where it ends
-pub then : {x₁ x₂ : List ℕ} (xs : List ℕ) (at : ℕ) (a b : List ℕ) (n : ℕ) → x₁ ≡ put xs at a → x₂ ≡ put x₁ n b → at + length a ≡ n → n ≤ length xs → x₂ ≡ put xs at (a ++ b)
+pub then : {x₁ x₂ : List ℕ} (xs : List ℕ) (at : ℕ) (a b : List ℕ) (n : ℕ) → x₁ ≡ put xs at a → x₂ ≡ put x₁ n b → at + length a ≡ n
+    → n ≤ length xs → x₂ ≡ put xs at (a ++ b)
 then {x₁} {x₂} xs at a b n e₁ e₂ l h = e₂ ∙ ap (λ (x : List ℕ). put x n b) e₁ ∙ put-put xs at a b n l h
 
 -- nothing put

@@ -45,7 +45,8 @@ module _ {A : Type 0} (p : A → Bool) (xs : List A) (d : A) where
   all-end i h q = q ∙ ap (λ (l : List A). all p l) (drop-of-length-le xs h)
 
   -- a scan with no early exit: what it has so far, and what is left
-  pub scan-step : (ok : Bool) (i : ℕ) → i < length xs → (ok && all p (drop i xs)) ≡ all p xs → ((ok && p (getD xs i d)) && all p (drop (i + 1) xs)) ≡ all p xs
+  pub scan-step : (ok : Bool) (i : ℕ) → i < length xs → (ok && all p (drop i xs)) ≡ all p xs
+      → ((ok && p (getD xs i d)) && all p (drop (i + 1) xs)) ≡ all p xs
   scan-step ok i h q = and-assoc ok (p (getD xs i d)) (all p (drop (i + 1) xs)) ∙ rw (add-one) (rw (drop-cons xs i d) at q)
 
   pub scan-end : (ok : Bool) (i : ℕ) → length xs ≤ i → (ok && all p (drop i xs)) ≡ all p xs → ok ≡ all p xs
@@ -98,24 +99,6 @@ pub all-at : (m : ℕ) (xs : List ℕ) (k : ℕ) → all (atMost m) xs ≡ true 
 all-at m [] k h = omega arith
 all-at m (x ∷ xs) zero h = leb-true x m (and-left (leb x m) (all (atMost m) xs) h)
 all-at m (x ∷ xs) (suc k) h = all-at m xs k (and-right (leb x m) (all (atMost m) xs) h)
-
--- where each number is at most m, and n is at most m, each is so after n is put at i
-pub all-set : (m : ℕ) (xs : List ℕ) (i n : ℕ) → all (atMost m) xs ≡ true → n ≤ m → all (atMost m) (set xs i n) ≡ true
-all-set m [] i n h q = h
-all-set m (x ∷ xs) zero n h q = rw (le-leb n m q) (and-right (leb x m) (all (atMost m) xs) h)
-all-set m (x ∷ xs) (suc i) n h q =
-    rw (and-left (leb x m) (all (atMost m) xs) h) (all-set m xs i n (and-right (leb x m) (all (atMost m) xs) h) q)
-
--- a larger limit
-pub all-more : (m n : ℕ) (xs : List ℕ) → m ≤ n → all (atMost m) xs ≡ true → all (atMost n) xs ≡ true
-all-more m n [] q h = h
-all-more m n (x ∷ xs) q h =
-    let t : x ≤ m = leb-true x m (and-left (leb x m) (all (atMost m) xs) h) in
-    rw (le-leb x n (omega arith)) (all-more m n xs q (and-right (leb x m) (all (atMost m) xs) h))
-
--- one more at i, and the limit one more
-pub all-bump : (m : ℕ) (xs : List ℕ) (i : ℕ) → all (atMost m) xs ≡ true → all (atMost (m + 1)) (bump xs i) ≡ true
-all-bump m xs i h = all-set (m + 1) xs i _ (all-more m (m + 1) xs (omega arith) h) (omega (arith, all-at m xs i h))
 
 -- a larger bound on every number
 pub each-more : (m n : ℕ) (xs : List ℕ) → m ≤ n → EachBelow m xs → EachBelow n xs

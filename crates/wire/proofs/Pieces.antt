@@ -8,7 +8,8 @@ use native.Mathlib.Nat.{eq-or-lt-of-le}
 use native.Mathlib.Numerals.{add-one}
 use mathlib.Core.Logic.{⊎-elim}
 use lib.ListN.{length, take, getD, set, replicate, length-append, length-replicate, length-set, List·getD-append}
-use lib.Seq.{take-suc, take-suc-set, take-all, length-take-le, getD-append-add, ext-getD, getD-at, set-append-seam, set-append-left, append-snoc}
+use lib.Seq.{take-suc, take-suc-set, take-all, length-take-le, getD-append-add}
+use lib.Seq.{ext-getD, getD-at, set-append-seam, set-append-left, append-snoc}
 use Rattle.wire.specs.Bytes.{one, zeros, total, words, be32}
 use borrow.Author.Tests.{le-leb}
 use Rattle.wire.specs.Lists.{all, atMost}
@@ -22,7 +23,8 @@ module _ (piece : ℕ → List ℕ) where
   pub runs-append : (xs ys : List ℕ) → runs piece (xs ++ ys) ≡ runs piece xs ++ runs piece ys
   unfolding runs
   runs-append [] ys = refl
-  runs-append (x ∷ xs) ys = ap (λ (l : List ℕ). piece x ++ l) (runs-append xs ys) ∙ sym (append-assoc (piece x) (runs piece xs) (runs piece ys))
+  runs-append (x ∷ xs) ys =
+      ap (λ (l : List ℕ). piece x ++ l) (runs-append xs ys) ∙ sym (append-assoc (piece x) (runs piece xs) (runs piece ys))
 
   pub runs-one : (x : ℕ) → runs piece (one x) ≡ piece x
   unfolding runs
@@ -31,7 +33,8 @@ module _ (piece : ℕ → List ℕ) where
   -- one piece more
   pub runs-take : (xs : List ℕ) (i : ℕ) → i < length xs → runs piece (take (i + 1) xs) ≡ runs piece (take i xs) ++ piece (getD xs i 0)
   runs-take xs i h =
-      rw (add-one, take-suc xs i 0) (runs-append (take i xs) (one (getD xs i 0)) ∙ ap (λ (l : List ℕ). runs piece (take i xs) ++ l) (runs-one (getD xs i 0)))
+      rw (add-one, take-suc xs i 0)
+      (runs-append (take i xs) (one (getD xs i 0)) ∙ ap (λ (l : List ℕ). runs piece (take i xs) ++ l) (runs-one (getD xs i 0)))
 
   module _ (k : ℕ) (size : (x : ℕ) → length (piece x) ≡ k) where
     pub length-runs : (xs : List ℕ) → length (runs piece xs) ≡ k * length xs
@@ -71,7 +74,8 @@ module _ (f : ℕ → ℕ) where
   table-more n = rw add-one
 
   -- a loop that fills a list: one turn, its end
-  pub table-turn : {v : ℕ} (xs : List ℕ) (i : ℕ) → i < length xs → take i xs ≡ table i f → v ≡ f i → take (i + 1) (set xs i v) ≡ table (i + 1) f
+  pub table-turn : {v : ℕ} (xs : List ℕ) (i : ℕ) → i < length xs → take i xs ≡ table i f → v ≡ f i
+      → take (i + 1) (set xs i v) ≡ table (i + 1) f
   table-turn {v} xs i h e q =
       ap (λ (n : ℕ). take n (set xs i v)) (add-one i) ∙ take-suc-set xs i v h ∙ (λ k. e k ++ one (q k)) ∙ sym (table-more i)
 

@@ -53,7 +53,9 @@ enum-told-2 : tie.Need-enum-told-2
 enum-told-2 c = search needs
 
 sample-packet-requires : tie.Need-sample-packet-requires
-sample-packet-requires c κs = accepted-length _ (is-zero (c .before .before .before .before))
+sample-packet-requires c κs =
+    let k = c .before .before .before .before in
+    accepted-length _ (is-zero k)
 
 enum-told-3 : tie.Need-enum-told-3
 enum-told-3 c = search needs

@@ -1,5 +1,4 @@
 -- `in_use` answers how many entries there are that wait, and they are those that the orders say.
-use Prim.Native.Nat.{ℕ}
 use mathlib.Core.Path.{_≡_, refl, sym, _∙_}
 use native.Mathlib.Omega.{arith}
 use lib.ListN.{length, length-map}

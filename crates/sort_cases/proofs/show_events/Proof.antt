@@ -1,4 +1,4 @@
--- `show_events` reads the five numbers of each of 16 events within the list of 80.
+-- `show_events` stays within the list of 80 numbers, five for each of 16 events.
 use Prim.Native.Nat.{_≤_, _-_}
 use borrow.Author.Needs.{needs}
 use Rattle.sort_cases.proofs.show_events.Statement.{statement}
@@ -13,59 +13,11 @@ abbrev μ-loop : tie.MeasureT-loop
 loop-holds : tie.Need-loop-holds Inv-loop μ-loop
 loop-holds c = search needs
 
-mul-at : tie.Need-mul-at Inv-loop μ-loop
-mul-at c = search needs
+mul-show-event : tie.Need-mul-show-event Inv-loop μ-loop
+mul-show-event c = search needs
 
-add-settings-of : tie.Need-add-settings-of Inv-loop μ-loop
-add-settings-of c = search needs
-
-mul-settings-of : tie.Need-mul-settings-of Inv-loop μ-loop
-mul-settings-of c = search needs
-
-array-read-settings-of : tie.Need-array-read-settings-of Inv-loop μ-loop
-array-read-settings-of c = search needs
-
-settings-of-requires : tie.Need-settings-of-requires Inv-loop μ-loop
-settings-of-requires c κs = search needs
-
-mul-event-of : tie.Need-mul-event-of Inv-loop μ-loop
-mul-event-of c = search needs
-
-array-read-event-of : tie.Need-array-read-event-of Inv-loop μ-loop
-array-read-event-of c = search needs
-
-add-event-of : tie.Need-add-event-of Inv-loop μ-loop
-add-event-of c = search needs
-
-mul-event-of-2 : tie.Need-mul-event-of-2 Inv-loop μ-loop
-mul-event-of-2 c = search needs
-
-array-read-event-of-2 : tie.Need-array-read-event-of-2 Inv-loop μ-loop
-array-read-event-of-2 c = search needs
-
-add-event-of-2 : tie.Need-add-event-of-2 Inv-loop μ-loop
-add-event-of-2 c = search needs
-
-mul-event-of-3 : tie.Need-mul-event-of-3 Inv-loop μ-loop
-mul-event-of-3 c = search needs
-
-array-read-event-of-3 : tie.Need-array-read-event-of-3 Inv-loop μ-loop
-array-read-event-of-3 c = search needs
-
-add-event-of-3 : tie.Need-add-event-of-3 Inv-loop μ-loop
-add-event-of-3 c = search needs
-
-mul-event-of-4 : tie.Need-mul-event-of-4 Inv-loop μ-loop
-mul-event-of-4 c = search needs
-
-array-read-event-of-4 : tie.Need-array-read-event-of-4 Inv-loop μ-loop
-array-read-event-of-4 c = search needs
-
-event-of-requires : tie.Need-event-of-requires Inv-loop μ-loop
-event-of-requires c κs = search needs
-
-show-requires : tie.Need-show-requires Inv-loop μ-loop
-show-requires c κs = search needs
+show-event-requires : tie.Need-show-event-requires Inv-loop μ-loop
+show-event-requires c κs = search needs
 
 add-i : tie.Need-add-i Inv-loop μ-loop
 add-i c = search needs
@@ -86,24 +38,8 @@ show-events-spec =
     Inv-loop
     μ-loop
     loop-holds
-    mul-at
-    add-settings-of
-    mul-settings-of
-    array-read-settings-of
-    settings-of-requires
-    mul-event-of
-    array-read-event-of
-    add-event-of
-    mul-event-of-2
-    array-read-event-of-2
-    add-event-of-2
-    mul-event-of-3
-    array-read-event-of-3
-    add-event-of-3
-    mul-event-of-4
-    array-read-event-of-4
-    event-of-requires
-    show-requires
+    mul-show-event
+    show-event-requires
     add-i
     loop-less
     loop-again

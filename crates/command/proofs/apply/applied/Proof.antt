@@ -15,7 +15,9 @@ enum-told : tie.Need-enum-told
 enum-told c = search needs
 
 returns : tie.Need-returns
-returns c = c .changed .ensures ∙ sym (ap (settingsAfter (c .before .before .before .before .args .s)) (c .before .before .c .given .1))
+returns c =
+    let k = c .before .before in
+    c .changed .ensures ∙ sym (ap (settingsAfter (k .before .before .args .s)) (k .c .given .1))
 
 returns-2 : tie.Need-returns-2
 returns-2 c = search needs

@@ -1,6 +1,5 @@
 -- `changed` sets the field of the setting that it is told, and leaves the others.
 use mathlib.Core.Path.{_≡_, sym, ap}
-use Rattle.settings.specs.declared.Settings.{Settings}
 use Rattle.command.specs.declared.command.Setting.{Setting}
 use Rattle.command.specs.Change.{changed}
 use borrow.Author.Needs.{needs}

@@ -33,7 +33,8 @@ payload-bytes-requires c κs =
 
 add-end : tie.Need-add-end
 add-end c =
-    let s = start (c .before .before .before .before) in
+    let k = c .before .before .before .before in
+    let s = start k in
     omega (arith, placeable-fits (now (s .args .p)) (s .args .a .next) (s .pre .1))
 
 larger-requires : tie.Need-larger-requires

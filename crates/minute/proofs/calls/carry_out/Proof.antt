@@ -37,7 +37,8 @@ unfolding carriedOut
 returns-2 c =
     let x = c .before .before .before .before .before .before in
     let e = x .close .ensures in
-    let k = x .before .before .before .before .before .match .keys2 in
+    let m = x .before .before .before .before .before in
+    let k = m .match .keys2 in
     (rw k (e .0), (rw k (e .1 .0), rw k (e .1 .1)))
 
 returns-3 : tie.Need-returns-3

@@ -35,7 +35,8 @@ unfolding answer
 returns c =
     let x = c .before .before .before .before .before .before .before .before .before .before .before in
     let e = x .close .ensures in
-    let t = sym (x .before .before .before .before .u32-at .ensures) in
+    let u = x .before .before .before .before in
+    let t = sym (u .u32-at .ensures) in
     (rw t (ap answer (e .0)), (rw t (e .1 .0), rw t (e .1 .1 .0)))
 
 pub close-spec : {M : Type 1} → statement M

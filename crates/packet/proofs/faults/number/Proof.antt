@@ -46,7 +46,8 @@ returns-2 c =
     let s = c .before .before in
     let b = s .before in
     let k = b .before in
-    let xs = now (k .before .before .before .before .before .args .packet) in
+    let a = k .before .before .before .before .before .args in
+    let xs = now (a .packet) in
     let e = b .body-good .ensures ∙ ap (λ (t : Kind). bodyGood t xs) (k .kind-of .ensures ∙ ap kindOf (k .before .application .ensures)) in
     simp (c .unless2 .ensures, c .before .unless .ensures, s .sum-good .ensures, e, has-header (k .before .before))
 

@@ -16,8 +16,8 @@ abbrev entry : tie.After-close-number → tie.Start
 entry n = let k = n .before .before .before in k .before .before .before
 
 closes-is : (l : tie.Else1)
-    → Closes (entry (l .before) .args .state) (length (now (entry (l .before) .args .tables))) (length (now (entry (l .before) .args .staging)))
-    (now (entry (l .before) .args .slots)) (length (now (entry (l .before) .args .out)))
+    → let a = entry (l .before) .args in
+    Closes (a .state) (length (now (a .tables))) (length (now (a .staging))) (now (a .slots)) (length (now (a .out)))
 closes-is l =
     let n = l .before in
     let s = entry n in
@@ -91,9 +91,10 @@ returns-2 c =
     let wp = written rl in
     let fl = counted wp in
     let l = fl .before .before in
-    let e = sym (l .before .close-number .ensures) ∙ l .if1 .left in (
+    let e = sym (l .before .close-number .ensures) ∙ l .if1 .left in
+    let z = cl .clear .ensures ∙ ap zeros (closes-is l .slots-are) in (
       simp (e, c .closed-state .ensures, fl .filled .ensures),
-      (simp e (rl .run-loads .ensures), (simp e (cl .clear .ensures ∙ ap zeros (closes-is l .slots-are)), simp e (wp .write-packets .ensures))),
+      (simp e (rl .run-loads .ensures), (simp e z, simp e (wp .write-packets .ensures))),
     )
 
 pub close-spec : {M : Type 1} → statement M

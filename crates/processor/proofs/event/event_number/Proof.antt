@@ -39,7 +39,8 @@ returns-2 c =
     let r = c .before .before .before in
     let w = r .before .before in
     let a = w .before .args in
-    let e : (w .within-limits .result && eqb (a .tables) tableBytes && eqb (a .slots) slotCount) ≡ true = not-false _ (r .before .if1 .left) in
+    let e : (w .within-limits .result && eqb (a .tables) tableBytes && eqb (a .slots) slotCount) ≡ true =
+    not-false _ (r .before .if1 .left) in
     simp (sym (w .within-limits .ensures), e, c .unless2 .ensures, c .before .unless .ensures, r .in-range .ensures)
 
 pub event-number-spec : {M : Type 1} → statement M

@@ -1,6 +1,5 @@
 -- The record of an eligible event is placed, and no other changes the slots.
 use mathlib.Core.Path.{sym, _∙_}
-use native.Mathlib.Omega.{arith}
 use borrow.Author.Tests.{not-true, not-false}
 use borrow.Author.Needs.{needs}
 use Rattle.processor.proofs.event.place_record.Statement.{statement}

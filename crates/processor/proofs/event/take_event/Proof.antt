@@ -1,6 +1,5 @@
 -- `take_event` places the record, counts the outcome, and puts the interval with both into the state.
 use mathlib.Core.Path.{sym, subst}
-use native.Mathlib.Omega.{arith}
 use borrow.Author.Tests.{leb-true}
 use denote.Ref.{now}
 use Rattle.sort.specs.Counts.{OutcomeNames}

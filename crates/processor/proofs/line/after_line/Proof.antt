@@ -1,6 +1,6 @@
 -- An accepted line finds room, and makes the state that its kind says.
-use mathlib.Core.Path.{_≡_, sym, ap, _∙_, subst}
-use mathlib.Core.Bool.{Bool, true, _&&_, not}
+use mathlib.Core.Path.{_≡_, sym, ap, _∙_}
+use mathlib.Core.Bool.{true}
 use Prim.Native.Nat.{_<_}
 use native.Mathlib.Omega.{arith}
 use Rattle.causes.specs.Checks.{numberBy}
@@ -17,8 +17,8 @@ use Rattle.processor.proofs.line.after_line.Statement.{statement}
 use Rattle.processor.proofs.line.after_line.Tie as tie
 
 -- a command that is accepted is one of at most 32
-accepted-room : (s : State) (l : Line) → numberBy (commandChecks (loadWaits (s .orders)) (commandsFull (s .orders)) l) ≡ 0 → isCommand l ≡ true
-    → s .orders .accepted < mostCommands
+accepted-room : (s : State) (l : Line) → numberBy (commandChecks (loadWaits (s .orders)) (commandsFull (s .orders)) l) ≡ 0
+    → isCommand l ≡ true → s .orders .accepted < mostCommands
 accepted-room s l h k =
     let a = command-accepts (loadWaits (s .orders)) (commandsFull (s .orders)) l h in
     room (s .orders) (rw k at (a .room))
@@ -76,7 +76,8 @@ returns-4 : tie.Need-returns-4
 unfolding stateTold
 returns-4 c =
     let l = c .before .before in
-    simp (c .set-addresses .ensures, c .before .fresh-addresses .ensures) (sym (ap (stateTold (l .before .before .args .s)) (l .enum-told3 .given .1)))
+    simp (c .set-addresses .ensures, c .before .fresh-addresses .ensures)
+    (sym (ap (stateTold (l .before .before .args .s)) (l .enum-told3 .given .1)))
 
 returns-5 : tie.Need-returns-5
 unfolding stateTold

@@ -31,8 +31,8 @@ abbrev start : tie.After-unless2 → tie.Start
 start u = let w = u .before .before .before in w .before .before .before
 
 first-is : (u : tie.After-unless2)
-    → u .unless2 .result
-    ≡ cond (withinLimits (start u .args .state) && eqb (length (now (start u .args .echo))) echoBytes) (cond (bytesOk (now (start u .args .line))) 0 4) 1
+    → let a = start u .args in
+    u .unless2 .result ≡ cond (withinLimits (a .state) && eqb (length (now (a .echo))) echoBytes) (cond (bytesOk (now (a .line))) 0 4) 1
 first-is u =
     let b = u .before .before in
     simp (u .unless2 .ensures, u .before .unless .ensures, b .bytes-ok .ensures, b .before .within-limits .ensures)
@@ -41,8 +41,8 @@ returns : tie.Need-returns
 unfolding lineDone
 returns c =
     let u = c .before in
-    let s = start u in
-    let k = line-early (s .args .state) (now (s .args .line)) (length (now (s .args .echo))) (u .unless2 .result) (first-is u) (c .if1 .taken) in
+    let a = start u .args in
+    let k = line-early (a .state) (now (a .line)) (length (now (a .echo))) (u .unless2 .result) (first-is u) (c .if1 .taken) in
     let n = ne-eqb _ _ (c .if1 .taken) in
     (simp (k .0, n), simp (k .0, n, k .1))
 
@@ -50,9 +50,9 @@ take-line-requires : tie.Need-take-line-requires
 take-line-requires c κs =
     let l = c .before in
     let u = l .before in
-    let s = start u in
-    let p = early-passed (s .args .state) (now (s .args .line)) (length (now (s .args .echo))) (u .unless2 .result) (first-is u) (l .if1 .left) in
-    ((p .1, line-short (now (s .args .line)) (p .2)), (p .0, p .2))
+    let a = start u .args in
+    let p = early-passed (a .state) (now (a .line)) (length (now (a .echo))) (u .unless2 .result) (first-is u) (l .if1 .left) in
+    ((p .1, line-short (now (a .line)) (p .2)), (p .0, p .2))
 
 same-length : tie.Need-same-length
 same-length c = search needs

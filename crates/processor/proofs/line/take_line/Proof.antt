@@ -33,18 +33,22 @@ abbrev start : tie.After-command-number → tie.Start
 start k = let p = k .before .before .before in p .before .before .before
 
 cause-is : (k : tie.After-command-number)
-    → lineNumber (start k .args .state) (now (start k .args .line)) (length (now (start k .args .echo)))
-    ≡ numberBy (commandChecks (loadWaits (start k .args .state .orders)) (commandsFull (start k .args .state .orders)) (lineOf (now (start k .args .line)) (start k .args .state .staging .reach)))
+    → let a = start k .args in
+    let o = a .state .orders in
+    lineNumber (a .state) (now (a .line)) (length (now (a .echo)))
+    ≡ numberBy (commandChecks (loadWaits o) (commandsFull o) (lineOf (now (a .line)) (a .state .staging .reach)))
 cause-is k =
     let s = start k in
     line-number (s .args .state) (now (s .args .line)) _ (s .pre .1 .0) (eq-eqb _ _ (s .pre .0 .0)) (s .pre .1 .1)
 
-number-is : (k : tie.After-command-number) → lineNumber (start k .args .state) (now (start k .args .line)) (length (now (start k .args .echo))) ≡ k .command-number .result
+number-is : (k : tie.After-command-number)
+    → lineNumber (start k .args .state) (now (start k .args .line)) (length (now (start k .args .echo))) ≡ k .command-number .result
 number-is k =
     let f = k .before in
     let w = f .before in
     cause-is k
-    ∙ sym (k .command-number .ensures ∙ (λ i. numberBy (commandChecks (w .load-waits .ensures i) (f .full .ensures i) (w .before .parse .ensures i))))
+    ∙ sym (k .command-number .ensures
+    ∙ (λ i. numberBy (commandChecks (w .load-waits .ensures i) (f .full .ensures i) (w .before .parse .ensures i))))
 
 write-refused-requires : tie.Need-write-refused-requires
 write-refused-requires c κs = search needs
@@ -61,7 +65,8 @@ returns c =
     let s = start k in
     let l = lineOf (now (s .args .line)) (s .args .state .staging .reach) in
     let n = ne-eqb _ _ (t .if1 .taken) in
-    let five = command-five (isWrong l) (usesStaging l) (isCommand l) (loadWaits (s .args .state .orders)) (commandsFull (s .args .state .orders))
+    let o = s .args .state .orders in
+    let five = command-five (isWrong l) (usesStaging l) (isCommand l) (loadWaits o) (commandsFull o)
     (λ z. t .if1 .taken (sym (number-is k) ∙ cause-is k ∙ z)) in
     let five′ = ap (leb 5) (sym (cause-is k) ∙ number-is k) in
     (simp (number-is k, n), simp (number-is k, n, sym five′ ∙ five) (w .write-refused .ensures))

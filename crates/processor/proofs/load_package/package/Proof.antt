@@ -28,7 +28,7 @@ abbrev start : tie.Else1 → tie.Start
 start l = let n = l .before .before in (let k = n .before .before in k .before .before)
 
 staged-is : (l : tie.Else1)
-    → Stages (start l .args .state) (now (start l .args .bytes)) (length (now (start l .args .staging))) (length (now (start l .args .echo)))
+    → let a = start l .args in Stages (a .state) (now (a .bytes)) (length (now (a .staging))) (length (now (a .echo)))
 staged-is l =
     let p = l .before in
     let n = p .before .package-number .ensures in

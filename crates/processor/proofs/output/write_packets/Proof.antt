@@ -1,5 +1,5 @@
 -- Rate packet, sample packets and beacon packet, put one behind the other, fill the output.
-use Prim.Native.Nat.{ℕ, _+_}
+use Prim.Native.Nat.{ℕ}
 use mathlib.Core.Path.{_≡_, sym, ap, _∙_}
 use mathlib.Core.List.{List, _++_}
 use native.Mathlib.Omega.{arith}
@@ -18,7 +18,8 @@ use Rattle.processor.proofs.output.write_packets.Statement.{statement}
 use Rattle.processor.proofs.output.write_packets.Tie as tie
 
 -- an interval's arrays have their lengths
-arrays : (s : tie.Start) → (length (s .args .i .totals) ≡ 8) × (length (s .args .i .counts .boxes) ≡ 116) × (length (s .args .i .counts .beacons) ≡ 12)
+arrays : (s : tie.Start)
+    → (length (s .args .i .totals) ≡ 8) × (length (s .args .i .counts .boxes) ≡ 116) × (length (s .args .i .counts .beacons) ≡ 12)
 arrays s =
     let fields = s .good .1 .1 .0 .1 .1 in
     let counts = fields .1 .0 .1 .1 in (
@@ -112,7 +113,8 @@ returns c =
     let R : List ℕ = ratePacket stamp (a .i .totals) (a .i .counts .boxes) (a .settings) sum in
     let S : List ℕ = samplesOf (a .frame) (a .time) (now (a .slots)) samplePackets in
     let E : List ℕ = beaconPacket stamp (a .i .counts .beacons) in
-    let lr : length R ≡ packetBytes = length-rate stamp (a .i .totals) (a .i .counts .boxes) (a .settings) sum (arrays s .0) (arrays s .1) in
+    let lr : length R ≡ packetBytes =
+    length-rate stamp (a .i .totals) (a .i .counts .boxes) (a .settings) sum (arrays s .0) (arrays s .1) in
     let ls : length S ≡ 2992 = length-samples (a .frame) (a .time) (now (a .slots)) samplePackets (omega arith) in
     let le : length E ≡ packetBytes = length-beacon stamp (a .i .counts .beacons) (arrays s .2) in
     let lrs : length (R ++ S) ≡ 3264 = omega (arith, length-append R S) in
@@ -123,7 +125,8 @@ returns c =
     let e₁ : putMid 0 packetBytes xs (c1 .write-rate .last .0) ≡ put xs 0 R =
     ap (putMid 0 packetBytes xs) e₀ ∙ put-mid 0 packetBytes xs R (omega arith) (omega arith) in
     let e₂ : x₂ ≡ put xs 0 (R ++ S) = then xs 0 R S packetBytes e₁ (c2 .write-samples .ensures) (omega arith) (omega arith) in
-    let eᵦ : c3 .write-beacon .last .0 ≡ E = c3 .write-beacon .ensures ∙ (λ j. beaconPacket (st .stamp-of .ensures j) (a .i .counts .beacons)) in
+    let eᵦ : c3 .write-beacon .last .0 ≡ E =
+    c3 .write-beacon .ensures ∙ (λ j. beaconPacket (st .stamp-of .ensures j) (a .i .counts .beacons)) in
     let e₃ : putMid 3264 packetBytes x₂ (c3 .write-beacon .last .0) ≡ put x₂ 3264 E =
     ap (putMid 3264 packetBytes x₂) eᵦ ∙ put-mid 3264 3536 x₂ E (omega arith) (omega arith) in
     then xs 0 (R ++ S) E 3264 e₂ e₃ (omega arith) (omega arith) ∙ put-all xs (R ++ S ++ E) (omega (arith, length-append (R ++ S) E))

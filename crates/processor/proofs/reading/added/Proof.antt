@@ -1,6 +1,6 @@
 -- The sums that `added` has made are the table of the first totals with their counts added.
-use Prim.Native.Nat.{ℕ, _≤_, _-_, _+_}
-use mathlib.Core.Path.{_≡_, _∙_}
+use Prim.Native.Nat.{_≤_, _-_, _+_}
+use mathlib.Core.Path.{_≡_}
 use native.Mathlib.Omega.{arith}
 use lib.ListN.{length, getD, take, length-set}
 use Rattle.wire.specs.Pieces.{table}
@@ -54,8 +54,11 @@ loop-less c = search needs
 loop-again : tie.Need-loop-again Inv-loop μ-loop
 loop-again c =
     let l = c .before .before in
-    let v = l .loop .inv in
-    (omega arith, simp length-set (v .1), table-turn _ (l .loop .sums) (l .loop .i) (omega arith) (v .2) (omega (arith, c .wide16 .ensures)))
+    let v = l .loop .inv in (
+      omega arith,
+      simp length-set (v .1),
+      table-turn _ (l .loop .sums) (l .loop .i) (omega arith) (v .2) (omega (arith, c .wide16 .ensures)),
+    )
 
 returns : tie.Need-returns Inv-loop μ-loop
 returns c =

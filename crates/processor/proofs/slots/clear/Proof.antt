@@ -1,3 +1,4 @@
+-- `clear` leaves zeros in the slots that it has passed, and in the end it has passed all.
 use Prim.Native.Nat.{_≤_, _-_}
 use mathlib.Core.Path.{_≡_, refl, sym, ap, _∙_}
 use native.Mathlib.Omega.{arith}

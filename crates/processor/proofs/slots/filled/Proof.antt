@@ -1,3 +1,4 @@
+-- What `filled` has counted and the filled slots that it has not passed are together all filled slots.
 use Prim.Native.Nat.{_≤_, _-_, _+_}
 use mathlib.Core.Bool.{cond}
 use mathlib.Core.Logic.{⊎-elim}
@@ -15,7 +16,8 @@ use Rattle.processor.proofs.slots.filled.Statement.{statement}
 use Rattle.processor.proofs.slots.filled.Tie as tie
 
 abbrev Inv-loop : tie.InvT-loop
-Inv-loop slots count₀ i₀ count i = (i ≤ length slots) × (count ≤ i) × (count + length (keep (ltb 0) (drop i slots)) ≡ length (keep (ltb 0) slots))
+Inv-loop slots count₀ i₀ count i =
+    (i ≤ length slots) × (count ≤ i) × (count + length (keep (ltb 0) (drop i slots)) ≡ length (keep (ltb 0) slots))
 
 abbrev μ-loop : tie.MeasureT-loop
 μ-loop slots count₀ i₀ count i = length slots - i

@@ -1,3 +1,4 @@
+-- The sum so far and the bytes that `byte_sum` has not passed are together the total, and 255 a byte bounds it.
 use Prim.Native.Nat.{_≤_, _-_, _+_, _*_}
 use mathlib.Core.Path.{_≡_}
 use native.Mathlib.Omega.{arith}

@@ -1,3 +1,4 @@
+-- After i bytes `put_bytes` has put the first i of its source.
 use Prim.Native.Nat.{ℕ, _≤_, _-_, _+_}
 use mathlib.Core.Path.{_≡_, refl, ap, _∙_}
 use mathlib.Core.List.{List, _++_}
@@ -46,7 +47,8 @@ loop-again c =
     let n : length (take i src) ≡ i = length-take-le i src (omega arith) in
     let e : take i src ++ one (getD src i 0) ≡ take (i + 1) src = rw (add-one, take-suc src i 0 (omega arith)) in (
       omega arith,
-      then xs (a .at) (take i src) (one (getD src i 0)) (a .at + i) (l .loop .inv .1) (c .before .before .put-u8 .ensures) (omega arith) (omega arith)
+      then xs (a .at) (take i src) (one (getD src i 0)) (a .at + i) (l .loop .inv .1) (c .before .before .put-u8 .ensures)
+          (omega arith) (omega arith)
           ∙ ap (put xs (a .at)) e,
       omega arith,
     )

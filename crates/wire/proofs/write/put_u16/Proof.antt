@@ -1,3 +1,4 @@
+-- `put_u16` sets two places in a row, the high byte first.
 use borrow.Author.Needs.{needs}
 use Prim.Native.Nat.{_/_, _%_}
 use mathlib.Core.List.{[], _∷_}

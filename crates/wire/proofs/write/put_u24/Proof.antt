@@ -1,3 +1,4 @@
+-- `put_u24` sets three places in a row, the high byte first.
 use Prim.Native.Nat.{suc, _+_}
 use mathlib.Core.Path.{_≡_}
 use native.Mathlib.Omega.{arith}

@@ -1,3 +1,4 @@
+-- `put_u32` sets four places in a row, the high byte first.
 use borrow.Author.Needs.{needs}
 use Prim.Native.Nat.{suc, _+_}
 use mathlib.Core.Path.{_≡_}

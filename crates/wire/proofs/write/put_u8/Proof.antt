@@ -1,3 +1,4 @@
+-- `put_u8` sets one place, which is putting a list of one byte.
 use borrow.Author.Needs.{needs}
 use native.Mathlib.Omega.{arith}
 use denote.Ref.{now}

@@ -1,3 +1,4 @@
+-- After i words `put_words` has put the four bytes of each of the first i, in order.
 use borrow.Author.Needs.{needs}
 use Prim.Native.Nat.{ℕ, _≤_, _-_, _+_, _*_}
 use mathlib.Core.Path.{_≡_, ap, refl, sym, _∙_}

@@ -1,3 +1,4 @@
+-- At place i `put_zeros` has put a zero at each place from its first to i.
 use Prim.Native.Nat.{ℕ, _≤_, _-_, _+_}
 use mathlib.Core.Path.{_≡_, refl, ap, _∙_}
 use native.Mathlib.Omega.{arith}
