@@ -58,7 +58,8 @@ module _ (frame time : ℕ) where
 
   -- sample packet p among the first n
   sample-in : (slots : List ℕ) (n p : ℕ) → 64 * n ≤ length slots → p < n
-      → take packetBytes (drop (packetBytes * p) (samplesOf frame time slots n)) ≡ samplePacket (stampOf frame time p) (take 64 (drop (64 * p) slots))
+      → take packetBytes (drop (packetBytes * p) (samplesOf frame time slots n))
+      ≡ samplePacket (stampOf frame time p) (take 64 (drop (64 * p) slots))
   unfolding samplesOf
   sample-in slots zero p h l = absurd (omega arith)
   sample-in slots (suc n) p h l =
@@ -77,7 +78,8 @@ module _ (frame time : ℕ) where
   -- "packet p (0 to 10) has slots 64p to 64p + 63 at 11-266", of the part of the output behind the rate packet and p others
   pub slots-sent : (totals : List ℕ) (counts : Counts) (settings : Settings) (tables slots : List ℕ) (p : ℕ)
       → length totals ≡ 8 → length (counts .boxes) ≡ 116 → length slots ≡ slotCount → p < samplePackets
-      → take 256 (drop (packetBytes * (p + 1) + 11) (packetsOf frame time totals counts settings tables slots)) ≡ words (take 64 (drop (64 * p) slots))
+      → take 256 (drop (packetBytes * (p + 1) + 11) (packetsOf frame time totals counts settings tables slots))
+      ≡ words (take 64 (drop (64 * p) slots))
   unfolding packetsOf samplePacket
   slots-sent totals counts settings tables slots p lt lb ls h =
       let R : List ℕ = ratePacket (stampOf frame time 0) totals (counts .boxes) settings (tableSum tables) in
@@ -94,7 +96,8 @@ module _ (frame time : ℕ) where
       let X : List ℕ = drop (packetBytes * p) S ++ E in
       let lX : packetBytes ≤ length X = omega (arith, length-append (drop (packetBytes * p) S) E, length-drop (packetBytes * p) S) in
       let q : take packetBytes X ≡ samplePacket (stampOf frame time p) records =
-      take-append-le packetBytes (drop (packetBytes * p) S) E (omega (arith, length-drop (packetBytes * p) S)) ∙ sample-in slots samplePackets p (omega arith) h in
+      take-append-le packetBytes (drop (packetBytes * p) S) E (omega (arith, length-drop (packetBytes * p) S))
+      ∙ sample-in slots samplePackets p (omega arith) h in
       let w : length (words records) ≡ 256 = length-words records ∙ omega (arith, length-part slots (64 * p) 64 (omega arith)) in
       ap (take 256) (sym (drop-drop 11 (packetBytes * (p + 1)) (R ++ S ++ E)) ∙ ap (drop 11) d)
       ∙ sym (part-of-reach X 256 11 packetBytes (omega arith) lX)

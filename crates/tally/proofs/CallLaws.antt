@@ -15,7 +15,8 @@ use Rattle.processor.specs.Line.{stateTold, lineNumber, lineDone}
 use Rattle.processor.specs.Package.{isStaged, packageCallNumber, packageDone}
 use Rattle.processor.specs.Close.{closeDone}
 use Rattle.processor.proofs.LimitsKept.{event-kept, reading-kept, line-kept, package-kept, close-kept}
-use Rattle.tally.specs.Calls.{found, Call, event, reading, line, load, close, numberOf, World, lineIn, loadIn, closeIn, next, reply, Typed}
+use Rattle.tally.specs.Calls.{found, Call, event, reading, line, load, close, numberOf}
+use Rattle.tally.specs.Calls.{World, lineIn, loadIn, closeIn, next, reply, Typed}
 use Rattle.tally.proofs.Steps.{kept-same}
 
 -- a reading has eight 16-bit counts and a state 32 places for commands, as their types say

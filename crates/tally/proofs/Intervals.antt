@@ -29,7 +29,8 @@ ended-right t v time = record {
   taken-are = refl;
   counts-are = refl;
   filled-are = refl;
-  slots-are = λ p h. slots-sent (frameOf t) time (totalsOf t) (countsOf t) (t .settings) (t .tables) (ownSlots t) p (totals-length t) (boxes-length t) (slots-length t v) h;
+  slots-are = λ p h. slots-sent (frameOf t) time (totalsOf t) (countsOf t) (t .settings) (t .tables) (ownSlots t) p
+      (totals-length t) (boxes-length t) (slots-length t v) h;
   samples = samples-differ t v;
 }
 

@@ -232,5 +232,5 @@ pub slots-length : (t : Tally) → Inv t → length (ownSlots t) ≡ slotCount
 unfolding slotsBy slotsOf padded
 slots-length t v =
     let s = t .settings in
-    simp (length-append, length-map, length-replicate, length-sampled (priority s (t .tables)) slotCount (s .limhi) (eligibles t) (limhi-most t v))
-    (omega arith)
+    let e = length-sampled (priority s (t .tables)) slotCount (s .limhi) (eligibles t) (limhi-most t v) in
+    simp (length-append, length-map, length-replicate, e) (omega arith)

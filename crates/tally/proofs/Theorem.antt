@@ -110,7 +110,8 @@ all-intervals : (cs : List Call) (t : Tally) → Inv t → Lawful (view t) cs �
 all-intervals [] t v l = tt
 all-intervals (c ∷ cs) t v l = (
   subst (ClosedRight t) (sym (step-reply t v c (l .1 .0))) (reply-right t c v),
-  subst (λ w. Intervals (tnext t c) w cs) (sym (step-next t v c (l .1 .0))) (all-intervals cs (tnext t c) (next-inv t c cs v l) (next-lawful t c cs v l)),
+  subst (λ w. Intervals (tnext t c) w cs) (sym (step-next t v c (l .1 .0)))
+      (all-intervals cs (tnext t c) (next-inv t c cs v l) (next-lawful t c cs v l)),
 )
 
 none-balanced : Balanced 0 noCounts
