@@ -18,6 +18,7 @@ pub mod commands;
 pub mod loads;
 
 pub mod judged;
+pub mod limits;
 pub mod processor;
 pub mod station;
 

@@ -1,0 +1,165 @@
+// Lent buffers one shorter and one longer than they must be, and empty ones, over a fresh state; and calls that more than
+// one cause refuses. In each case the other buffers are right.
+use crate::calls;
+use crate::output::one;
+
+fn event_tables(name: &[u8], tables: &[u8]) {
+    let mut slots = [0u32; 704];
+    one(name, calls::event(state::fresh(), tables, &mut slots, 5));
+}
+
+fn event_slots(name: &[u8], slots: &mut [u32], t: u16) {
+    let tables = [0u8; 62985];
+    one(name, calls::event(state::fresh(), &tables, slots, t));
+}
+
+fn line(name: &[u8], bytes: &[u8], echo: &mut [u8]) {
+    one(name, calls::line(state::fresh(), bytes, echo));
+}
+
+fn package_staging(name: &[u8], bytes: &[u8], staging: &mut [u8]) {
+    let mut echo = [0u8; 128];
+    one(
+        name,
+        calls::package(state::fresh(), bytes, staging, &mut echo),
+    );
+}
+
+fn package_echo(name: &[u8], echo: &mut [u8]) {
+    let mut staging = [0u8; 62985];
+    one(
+        name,
+        calls::package(state::fresh(), &[0, 2, 0, 0], &mut staging, echo),
+    );
+}
+
+fn close_tables(name: &[u8], tables: &mut [u8]) {
+    let staging = [0u8; 62985];
+    let mut slots = [0u32; 704];
+    let mut out = [0u8; 3536];
+    one(
+        name,
+        calls::close(state::fresh(), tables, &staging, &mut slots, &mut out),
+    );
+}
+
+fn close_staging(name: &[u8], staging: &[u8]) {
+    let mut tables = [0u8; 62985];
+    let mut slots = [0u32; 704];
+    let mut out = [0u8; 3536];
+    one(
+        name,
+        calls::close(state::fresh(), &mut tables, staging, &mut slots, &mut out),
+    );
+}
+
+fn close_slots(name: &[u8], slots: &mut [u32]) {
+    let mut tables = [0u8; 62985];
+    let staging = [0u8; 62985];
+    let mut out = [0u8; 3536];
+    one(
+        name,
+        calls::close(state::fresh(), &mut tables, &staging, slots, &mut out),
+    );
+}
+
+fn close_output(name: &[u8], out: &mut [u8]) {
+    let mut tables = [0u8; 62985];
+    let staging = [0u8; 62985];
+    let mut slots = [0u32; 704];
+    one(
+        name,
+        calls::close(state::fresh(), &mut tables, &staging, &mut slots, out),
+    );
+}
+
+fn table_cases() {
+    let mut none = [0u8; 0];
+    let mut short = [0u8; 62984];
+    let mut long = [0u8; 62986];
+    event_tables(b"event-tables-0", &none);
+    event_tables(b"event-tables-62984", &short);
+    event_tables(b"event-tables-62986", &long);
+    close_tables(b"close-tables-0", &mut none);
+    close_tables(b"close-tables-62984", &mut short);
+    close_tables(b"close-tables-62986", &mut long);
+}
+
+fn slot_count_cases() {
+    let mut none = [0u32; 0];
+    let mut short = [0u32; 703];
+    let mut long = [0u32; 705];
+    event_slots(b"event-slots-0", &mut none, 5);
+    event_slots(b"event-slots-703", &mut short, 5);
+    event_slots(b"event-slots-705", &mut long, 5);
+    close_slots(b"close-slots-0", &mut none);
+    close_slots(b"close-slots-703", &mut short);
+    close_slots(b"close-slots-705", &mut long);
+}
+
+fn staging_cases() {
+    let mut none = [0u8; 0];
+    let mut short = [0u8; 62984];
+    let mut long = [0u8; 62986];
+    package_staging(b"package-staging-0", &[0, 2, 0, 0], &mut none);
+    package_staging(b"package-staging-62984", &[0, 2, 0, 0], &mut short);
+    package_staging(b"package-staging-62986", &[0, 2, 0, 0], &mut long);
+    close_staging(b"close-staging-0", &none);
+    close_staging(b"close-staging-62984", &short);
+    close_staging(b"close-staging-62986", &long);
+}
+
+fn echo_cases() {
+    let mut none = [0u8; 0];
+    let mut short = [0u8; 127];
+    let mut long = [0u8; 129];
+    line(b"line-echo-0", b"hv 1", &mut none);
+    line(b"line-echo-127", b"hv 1", &mut short);
+    line(b"line-echo-129", b"hv 1", &mut long);
+    package_echo(b"package-echo-0", &mut none);
+    package_echo(b"package-echo-127", &mut short);
+    package_echo(b"package-echo-129", &mut long);
+}
+
+fn output_cases() {
+    let mut none = [0u8; 0];
+    let mut short = [0u8; 3535];
+    let mut long = [0u8; 3537];
+    close_output(b"close-output-0", &mut none);
+    close_output(b"close-output-3535", &mut short);
+    close_output(b"close-output-3537", &mut long);
+}
+
+// The lowest number that applies is given: 1 before any other.
+fn lowest_cases() {
+    let mut slots = [0u32; 703];
+    let mut echo = [0u8; 127];
+    let mut staging = [0u8; 62984];
+    event_slots(b"event-t-512-slots-703", &mut slots, 512);
+    line(b"line-of-byte-9-echo-127", &[9], &mut echo);
+    line(b"line-hv-2-echo-127", b"hv 2", &mut echo);
+    line(b"empty-line-echo-127", b"", &mut echo);
+    package_staging(b"package-of-no-byte-staging-62984", b"", &mut staging);
+}
+
+// The same with the right buffers.
+fn right_cases() {
+    let mut slots = [0u32; 704];
+    let mut echo = [0u8; 128];
+    let mut staging = [0u8; 62985];
+    event_slots(b"event-t-512", &mut slots, 512);
+    line(b"line-of-byte-9", &[9], &mut echo);
+    line(b"line-hv-2", b"hv 2", &mut echo);
+    line(b"empty-line", b"", &mut echo);
+    package_staging(b"package-of-no-byte", b"", &mut staging);
+}
+
+pub fn run() {
+    table_cases();
+    slot_count_cases();
+    staging_cases();
+    echo_cases();
+    output_cases();
+    lowest_cases();
+    right_cases();
+}
