@@ -2,6 +2,8 @@
 # The proved programs against the second implementation (reference/), byte for byte.
 #   tests/compare.sh                    the fixed set that the gate runs
 #   tests/compare.sh FROM TO [CALLS]    a stream of CALLS calls (5,000) for each seed FROM to TO, for replay
+# The fixed set begins with the cases of cause 1 (limit_cases), which no stream can give: the output stored beside the
+# proved program must be what the second implementation prints, and the proved program must print the same.
 # A difference prints the seed and the first differing line. At the end: how often each number was answered.
 # The proved programs stand in target/bin (rt check); the second implementation is built here.
 set -u
@@ -19,6 +21,17 @@ run() {
     (cd "$work" && "$1/$2" < stdin > "$3" 2> "$3.error"; echo "exit status $?" >> "$3")
 }
 
+# same WHAT EXPECTED FOUND: two files that must not differ.
+same() {
+    if cmp -s "$2" "$3"; then
+        passed=$((passed + 1))
+    else
+        failed=$((failed + 1))
+        echo "$1 differs:"
+        diff "$2" "$3" | head -n 4 | cut -c 1-400
+    fi
+}
+
 # compare PROGRAM SEED CALLS [OPTION...]: one stream, both implementations.
 compare() {
     local program=$1 stream="${*:2}"
@@ -27,18 +40,23 @@ compare() {
     run "$plain" "$program" expected
     run "$proved" "$program" found
     [ "$program" = replay ] && cat "$work/expected" >> "$answers"
-    if cmp -s "$work/expected" "$work/found"; then
-        passed=$((passed + 1))
-    else
-        failed=$((failed + 1))
-        echo "$program differs on the stream of seed $stream:"
-        diff "$work/expected" "$work/found" | head -n 4 | cut -c 1-400
-    fi
+    same "$program on the stream of seed $stream" "$work/expected" "$work/found"
 }
 
-# The gate's set: ordinary streams, and those that reach what an ordinary one does not.
+# Odd states, lengths and slots.
+limits() {
+    : > "$work/stdin"
+    run "$plain" limit_cases expected
+    run "$proved" limit_cases found
+    (cat crates/limit_cases/stdout && echo "exit status 0") > "$work/stored"
+    same "the stored output of limit_cases" "$work/expected" "$work/stored"
+    same "limit_cases" "$work/expected" "$work/found"
+}
+
+# The gate's set: the cases of cause 1, ordinary streams, and those that reach what an ordinary one does not.
 fixed() {
     local seed
+    limits
     for seed in $(seq 1 40); do
         compare replay "$seed" 2000
     done
