@@ -1,7 +1,21 @@
-// The number that each call answers. What is not lent and not the state is the same throughout but for the channel t.
+// The number that each call answers.
 use crate::output;
 use sort::event::Event;
 use state::State;
+
+// The lengths that lent buffers must have, as document 01 gives them.
+pub const TABLE_BYTES: usize = 62985;
+
+pub const STAGING_BYTES: usize = 62985;
+
+pub const SLOTS: usize = 704;
+
+pub const ECHO_BYTES: usize = 128;
+
+pub const OUT_BYTES: usize = 3536;
+
+// A time-of-flight channel in its range.
+pub const CHANNEL: u16 = 5;
 
 pub fn event(s: State, tables: &[u8], slots: &mut [u32], t: u16) -> u8 {
     let e = Event {
@@ -17,7 +31,7 @@ pub fn event(s: State, tables: &[u8], slots: &mut [u32], t: u16) -> u8 {
     answer.number
 }
 
-pub fn reading(s: State) -> u8 {
+fn reading(s: State) -> u8 {
     let answer = processor::reading::reading(s, [1u16; 8]);
     answer.number
 }
@@ -37,39 +51,39 @@ pub fn close(s: State, tables: &mut [u8], staging: &[u8], slots: &mut [u32], out
     answer.number
 }
 
-// The same with buffers of the right lengths.
-fn event_lent(s: State, t: u16) -> u8 {
-    let tables = [0u8; 62985];
-    let mut slots = [0u32; 704];
-    event(s, &tables, &mut slots, t)
+// The same with buffers of the right lengths, for an event, the line "hv 1" and a package of one byte.
+fn event_lent(s: State) -> u8 {
+    let tables = [0u8; TABLE_BYTES];
+    let mut slots = [0u32; SLOTS];
+    event(s, &tables, &mut slots, CHANNEL)
 }
 
-fn line_lent(s: State, bytes: &[u8]) -> u8 {
-    let mut echo = [0u8; 128];
-    line(s, bytes, &mut echo)
+fn line_lent(s: State) -> u8 {
+    let mut echo = [0u8; ECHO_BYTES];
+    line(s, b"hv 1", &mut echo)
 }
 
-fn package_lent(s: State, bytes: &[u8]) -> u8 {
-    let mut staging = [0u8; 62985];
-    let mut echo = [0u8; 128];
-    package(s, bytes, &mut staging, &mut echo)
+fn package_lent(s: State) -> u8 {
+    let mut staging = [0u8; STAGING_BYTES];
+    let mut echo = [0u8; ECHO_BYTES];
+    package(s, &[0, 3, 1, 0, 1], &mut staging, &mut echo)
 }
 
 fn close_lent(s: State) -> u8 {
-    let mut tables = [0u8; 62985];
-    let staging = [0u8; 62985];
-    let mut slots = [0u32; 704];
-    let mut out = [0u8; 3536];
+    let mut tables = [0u8; TABLE_BYTES];
+    let staging = [0u8; STAGING_BYTES];
+    let mut slots = [0u32; SLOTS];
+    let mut out = [0u8; OUT_BYTES];
     close(s, &mut tables, &staging, &mut slots, &mut out)
 }
 
-// The numbers of all five for one state: an event, a reading, the line "hv 1", a package of one byte, and the close.
+// The numbers of all five calls for one state.
 pub fn all(name: &[u8], s: State) {
     output::text(name);
-    output::number(event_lent(s, 5));
+    output::number(event_lent(s));
     output::number(reading(s));
-    output::number(line_lent(s, b"hv 1"));
-    output::number(package_lent(s, &[0, 3, 1, 0, 1]));
+    output::number(line_lent(s));
+    output::number(package_lent(s));
     output::number(close_lent(s));
     output::text(b"\n");
 }

@@ -1,15 +1,24 @@
-// Lent buffers one shorter and one longer than they must be, and empty ones, over a fresh state; and calls that more than
-// one cause refuses. In each case the other buffers are right.
+// Lent buffers one shorter and one longer than they must be, and empty ones, over a fresh state; in each case the other
+// buffers are right. Then calls that more than one cause refuses.
 use crate::calls;
+use crate::calls::CHANNEL;
+use crate::calls::ECHO_BYTES;
+use crate::calls::OUT_BYTES;
+use crate::calls::SLOTS;
+use crate::calls::STAGING_BYTES;
+use crate::calls::TABLE_BYTES;
 use crate::output::one;
 
 fn event_tables(name: &[u8], tables: &[u8]) {
-    let mut slots = [0u32; 704];
-    one(name, calls::event(state::fresh(), tables, &mut slots, 5));
+    let mut slots = [0u32; SLOTS];
+    one(
+        name,
+        calls::event(state::fresh(), tables, &mut slots, CHANNEL),
+    );
 }
 
 fn event_slots(name: &[u8], slots: &mut [u32], t: u16) {
-    let tables = [0u8; 62985];
+    let tables = [0u8; TABLE_BYTES];
     one(name, calls::event(state::fresh(), &tables, slots, t));
 }
 
@@ -18,7 +27,7 @@ fn line(name: &[u8], bytes: &[u8], echo: &mut [u8]) {
 }
 
 fn package_staging(name: &[u8], bytes: &[u8], staging: &mut [u8]) {
-    let mut echo = [0u8; 128];
+    let mut echo = [0u8; ECHO_BYTES];
     one(
         name,
         calls::package(state::fresh(), bytes, staging, &mut echo),
@@ -26,7 +35,7 @@ fn package_staging(name: &[u8], bytes: &[u8], staging: &mut [u8]) {
 }
 
 fn package_echo(name: &[u8], echo: &mut [u8]) {
-    let mut staging = [0u8; 62985];
+    let mut staging = [0u8; STAGING_BYTES];
     one(
         name,
         calls::package(state::fresh(), &[0, 2, 0, 0], &mut staging, echo),
@@ -34,9 +43,9 @@ fn package_echo(name: &[u8], echo: &mut [u8]) {
 }
 
 fn close_tables(name: &[u8], tables: &mut [u8]) {
-    let staging = [0u8; 62985];
-    let mut slots = [0u32; 704];
-    let mut out = [0u8; 3536];
+    let staging = [0u8; STAGING_BYTES];
+    let mut slots = [0u32; SLOTS];
+    let mut out = [0u8; OUT_BYTES];
     one(
         name,
         calls::close(state::fresh(), tables, &staging, &mut slots, &mut out),
@@ -44,9 +53,9 @@ fn close_tables(name: &[u8], tables: &mut [u8]) {
 }
 
 fn close_staging(name: &[u8], staging: &[u8]) {
-    let mut tables = [0u8; 62985];
-    let mut slots = [0u32; 704];
-    let mut out = [0u8; 3536];
+    let mut tables = [0u8; TABLE_BYTES];
+    let mut slots = [0u32; SLOTS];
+    let mut out = [0u8; OUT_BYTES];
     one(
         name,
         calls::close(state::fresh(), &mut tables, staging, &mut slots, &mut out),
@@ -54,9 +63,9 @@ fn close_staging(name: &[u8], staging: &[u8]) {
 }
 
 fn close_slots(name: &[u8], slots: &mut [u32]) {
-    let mut tables = [0u8; 62985];
-    let staging = [0u8; 62985];
-    let mut out = [0u8; 3536];
+    let mut tables = [0u8; TABLE_BYTES];
+    let staging = [0u8; STAGING_BYTES];
+    let mut out = [0u8; OUT_BYTES];
     one(
         name,
         calls::close(state::fresh(), &mut tables, &staging, slots, &mut out),
@@ -64,9 +73,9 @@ fn close_slots(name: &[u8], slots: &mut [u32]) {
 }
 
 fn close_output(name: &[u8], out: &mut [u8]) {
-    let mut tables = [0u8; 62985];
-    let staging = [0u8; 62985];
-    let mut slots = [0u32; 704];
+    let mut tables = [0u8; TABLE_BYTES];
+    let staging = [0u8; STAGING_BYTES];
+    let mut slots = [0u32; SLOTS];
     one(
         name,
         calls::close(state::fresh(), &mut tables, &staging, &mut slots, out),
@@ -89,9 +98,9 @@ fn slot_count_cases() {
     let mut none = [0u32; 0];
     let mut short = [0u32; 703];
     let mut long = [0u32; 705];
-    event_slots(b"event-slots-0", &mut none, 5);
-    event_slots(b"event-slots-703", &mut short, 5);
-    event_slots(b"event-slots-705", &mut long, 5);
+    event_slots(b"event-slots-0", &mut none, CHANNEL);
+    event_slots(b"event-slots-703", &mut short, CHANNEL);
+    event_slots(b"event-slots-705", &mut long, CHANNEL);
     close_slots(b"close-slots-0", &mut none);
     close_slots(b"close-slots-703", &mut short);
     close_slots(b"close-slots-705", &mut long);
@@ -144,9 +153,9 @@ fn lowest_cases() {
 
 // The same with the right buffers.
 fn right_cases() {
-    let mut slots = [0u32; 704];
-    let mut echo = [0u8; 128];
-    let mut staging = [0u8; 62985];
+    let mut slots = [0u32; SLOTS];
+    let mut echo = [0u8; ECHO_BYTES];
+    let mut staging = [0u8; STAGING_BYTES];
     event_slots(b"event-t-512", &mut slots, 512);
     line(b"line-of-byte-9", &[9], &mut echo);
     line(b"line-hv-2", b"hv 2", &mut echo);

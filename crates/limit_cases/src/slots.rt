@@ -1,13 +1,18 @@
 // Slots of odd boxes: only the close judges them.
 ghost use Prim.Native.Nat.{_<_};
 use crate::calls;
+use crate::calls::CHANNEL;
+use crate::calls::OUT_BYTES;
+use crate::calls::SLOTS;
+use crate::calls::STAGING_BYTES;
+use crate::calls::TABLE_BYTES;
 use crate::output;
 
 // One slot holds this record: the numbers of an event's call and of the close.
 fn slot(name: &[u8], at: usize, record: u32)
     requires { ⌜ at < 704 ⌝ }
 {
-    let mut slots = [0u32; 704];
+    let mut slots = [0u32; SLOTS];
     slots[at] = record;
     output::text(name);
     output::number(event(&mut slots));
@@ -16,14 +21,14 @@ fn slot(name: &[u8], at: usize, record: u32)
 }
 
 fn event(slots: &mut [u32]) -> u8 {
-    let tables = [0u8; 62985];
-    calls::event(state::fresh(), &tables, slots, 5)
+    let tables = [0u8; TABLE_BYTES];
+    calls::event(state::fresh(), &tables, slots, CHANNEL)
 }
 
 fn close(slots: &mut [u32]) -> u8 {
-    let mut tables = [0u8; 62985];
-    let staging = [0u8; 62985];
-    let mut out = [0u8; 3536];
+    let mut tables = [0u8; TABLE_BYTES];
+    let staging = [0u8; STAGING_BYTES];
+    let mut out = [0u8; OUT_BYTES];
     calls::close(state::fresh(), &mut tables, &staging, slots, &mut out)
 }
 
