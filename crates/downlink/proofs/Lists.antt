@@ -9,7 +9,8 @@ use Rattle.tally.specs.Calls.{Lent, Call, event, reading, line, load, close, nu
 use Rattle.tally.specs.Tally.{Tally, freshTally, ownSlots, numberFor, tnext, treply, tafter}
 use Rattle.tally.specs.View.{viewState, view}
 use Rattle.tally.proofs.Invariant.{Inv}
-use Rattle.tally.proofs.Corollaries.{slots-length, slots-good, inv-after, close-now}
+use Rattle.tally.proofs.Corollaries.{slots-good, inv-after, close-now}
+use Rattle.tally.proofs.Places.{slots-length}
 use Rattle.tally.proofs.Replies.{step-reply}
 use Rattle.tally.proofs.Steps.{number-is, step-next}
 use Rattle.tally.proofs.Theorem.{next-inv, next-lawful, fresh-view, fresh-inv}
