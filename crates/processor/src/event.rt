@@ -22,7 +22,7 @@ use sort::sorting::Outcome;
 use state::State;
 use state::interval::MOST_EVENTS;
 
-// The call's number, from the lengths of the tables and the slots. The first return saves each event ten instructions.
+// The call's number, from the lengths of the tables and the slots. The first return saves each event nine instructions.
 fn event_number(s: State, tables: usize, slots: usize, e: Event) -> u8
     ensures { λ r. ⌜ r ≡ eventNumber s tables slots e ⌝ }
 {
