@@ -1,4 +1,4 @@
-"""The rules of document 01, written from the paper alone, for the tests that work out expected outputs.
+"""The rules of document 01, written from its sentences, for the tests that work out expected outputs.
 
 An interval is kept as the list of its events, as in "The tally of demand 3": counts, slots and packets are worked out
 from that list when it is closed. Sentences in quotes are the paper's.

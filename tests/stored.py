@@ -1,4 +1,5 @@
-"""Works out the stored outputs of the programs, crates/*/stdout, from document 01 and compares them.
+"""Works out the stored outputs of the programs, crates/*/stdout, from document 01 and compares them;
+that of limit_cases comes from the second implementation (compare.sh).
 
     python3 tests/stored.py             prints what differs; the last line is 'N passed, M failed'
     python3 tests/stored.py --write     writes them anew

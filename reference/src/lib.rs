@@ -1,5 +1,5 @@
 //! The ion telescope event processor and packet reader of document 01, a second time:
-//! plain Rust over the standard library, written from the papers alone and sharing no
+//! plain Rust over the standard library, written from the papers (of `limits` see README.md) and sharing no
 //! code with the proved one, so that the two can be compared byte for byte.
 //!
 //! "Document 01" is the scope paper; "000" the SIT description; "001" the operations manual.
