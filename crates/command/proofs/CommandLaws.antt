@@ -9,7 +9,8 @@ use lib.ListN.{length}
 use borrow.Author.Tests.{leb-true}
 use Rattle.settings.specs.declared.Settings.{Settings}
 use Rattle.settings.specs.Settings.{settingsWithin}
-use Rattle.command.specs.Text.{text, same}
+use Rattle.wire.specs.Text.{text}
+use Rattle.command.specs.Words.{same}
 use Rattle.command.specs.Grammar.{rightIf, look, settingWords, mostOf, setLine, withOne, withTwo, oneArgument, twoArguments}
 use Rattle.command.specs.Grammar.{ofWords, lineWords, argumentOf, lineOf, commandOk}
 use Rattle.command.specs.Change.{settingsAfter}

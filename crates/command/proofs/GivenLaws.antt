@@ -10,12 +10,12 @@ use native.Mathlib.Omega.{arith}
 use lib.Dec.{leb, eqb}
 use borrow.Author.Tests.{leb-true, leb-false, le-leb, lt-leb, ne-eqb}
 use Rattle.wire.specs.Lists.{all}
+use Rattle.wire.specs.Text.{text, hexDigit, hex2}
 use Rattle.wire.proofs.Lists.{either}
 use Rattle.load.proofs.LoadLaws.{lawful-is}
-use Rattle.command.specs.Text.{text, same}
+use Rattle.command.specs.Words.{same}
 use Rattle.command.specs.Grammar.{printable, bytesOk, lineWords, isDigit, digitValue, argumentOf, rightIf, look, mostOf}
 use Rattle.command.specs.Grammar.{withOne, withTwo, oneArgument, twoArguments, ofWords, lineOf, commandOk}
-use Rattle.command.specs.Echo.{hexDigit, hex2}
 use Rattle.command.specs.declared.command.Command.{Command}
 use Rattle.command.specs.declared.command.Command.the-variants.{Set, Load}
 use Rattle.command.specs.declared.command.Setting.{Setting}

@@ -13,7 +13,7 @@ use lib.Dec.{eqb, ltb}
 use borrow.Author.Tests.{eq-eqb, ne-eqb, eqb-true, ltb-true, ltb-false}
 use Rattle.wire.specs.Lists.{all}
 use Rattle.wire.proofs.Lists.{either}
-use Rattle.command.specs.Text.{same}
+use Rattle.command.specs.Words.{same}
 use Rattle.command.specs.Grammar.{lineWords, onto, isDigit, argumentOf, oneArgument, twoArguments, ofWords, lineOf}
 use Rattle.command.specs.Parsing.{wordLength}
 use Rattle.command.specs.declared.command.Line.the-variants.{Wrong}

@@ -7,7 +7,8 @@ use mathlib.Core.List.{List, [], _∷_, _++_, map}
 use lib.Dec.{leb, eqb}
 use lib.ListN.{length}
 use Rattle.wire.specs.Lists.{all}
-use Rattle.command.specs.Text.{text, same}
+use Rattle.wire.specs.Text.{text}
+use Rattle.command.specs.Words.{same}
 use Rattle.load.specs.Load.{loadLawful}
 use Rattle.command.specs.declared.command.Command.{Command}
 use Rattle.command.specs.declared.command.Command.the-variants.{Set, Load}

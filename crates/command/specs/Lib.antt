@@ -1,6 +1,5 @@
 pub mod Asked
 pub mod Change
-pub mod Echo
 pub mod Grammar
 pub mod Parsing
-pub mod Text
+pub mod Words

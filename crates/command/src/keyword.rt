@@ -1,7 +1,7 @@
 // Keywords with their arguments, each in its range.
 ghost use mathlib.Core.Path.{_≡_};
 ghost use mathlib.Core.Bool.{cond};
-ghost use Rattle.command.specs.Text.{same};
+ghost use Rattle.command.specs.Words.{same};
 ghost use Rattle.command.specs.Grammar.{rightIf, setLine, withOne, withTwo, oneArgument, twoArguments};
 ghost use Rattle.load.specs.Load.{loadLawful};
 use crate::argument::Argument;

@@ -1,8 +1,7 @@
-// Command lines, what they ask for, and their echoes.
+// Command lines, what they ask for, and what a command makes of the settings.
 pub mod apply;
 pub mod argument;
 pub mod command;
-pub mod echo;
 pub mod keyword;
 pub mod line;
 pub mod words;

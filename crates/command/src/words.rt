@@ -2,7 +2,7 @@
 ghost use mathlib.Core.Path.{_≡_};
 ghost use Prim.Native.Nat.{_≤_};
 ghost use lib.ListN.{length};
-ghost use Rattle.command.specs.Text.{same};
+ghost use Rattle.command.specs.Words.{same};
 ghost use Rattle.command.specs.Parsing.{wordLength};
 
 const SPACE: u8 = b' ';

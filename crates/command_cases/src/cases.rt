@@ -6,7 +6,6 @@ ghost use lib.ListN.{length};
 ghost use Rattle.load.specs.Staging.{formed, placeable};
 ghost use Rattle.tables.specs.Tables.{tableBytes};
 use crate::output;
-use command::echo;
 use command::line::MAX_LINE;
 use load::staging;
 use load::staging::Addresses;

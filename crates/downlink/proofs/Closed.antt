@@ -8,11 +8,12 @@ use native.Mathlib.Omega.{arith}
 use borrow.Author.Tests.{eqb-true, eqb-false, leb-true}
 use lib.Dec.{eqb}
 use lib.ListN.{length, take, drop, length-append}
-use lib.Seq.{take-add, take-all}
+use lib.Seq.{take-at, take-add, take-all, drop-at}
 use Rattle.wire.specs.Bytes.{words}
 use Rattle.wire.specs.Lists.{all}
 use Rattle.wire.proofs.Bytes.{length-part}
-use Rattle.wire.proofs.Lists.{decide}
+use Rattle.wire.proofs.Lists.{decide, each-part, all-part}
+use Rattle.wire.proofs.Pieces.{words-append}
 use Rattle.settings.specs.Settings.{slotCount}
 use Rattle.sample_record.specs.Record.{recordGood}
 use Rattle.packet.specs.Packet.{packetBytes, lastSample, stampOf, ratePacket, samplePacket, beaconPacket}
@@ -24,12 +25,18 @@ use Rattle.ground.proofs.Back.{rate-back, sample-back, beacon-back}
 use Rattle.state.specs.declared.State.{State}
 use Rattle.state.specs.Limits.{withinLimits}
 use Rattle.state.proofs.LimitLaws.{state-limits}
-use Rattle.processor.specs.Close.{samplePackets, outBytes, samplesOf, packetsOf, closeDone}
+use Rattle.output.specs.Output.{samplePackets, outBytes, samplesOf, packetsOf}
+use Rattle.processor.specs.Close.{closeDone}
 use Rattle.processor.proofs.CallLaws.{close-closes}
-use Rattle.processor.proofs.OutputLaws.{totals-fit, boxes-fit, beacons-fit, length-samples, length-packets}
+use Rattle.output.proofs.OutputLaws.{totals-fit, boxes-fit, beacons-fit, length-samples, length-packets}
 use Rattle.downlink.specs.Downlink.{packetAt, ratePlace, samplePlace, beaconPlace, recordsRead}
 use Rattle.downlink.specs.Downlink.{Ended, written, Fits, PacketsReceived, TypedClose, endedBy, CloseReceived}
-use Rattle.downlink.proofs.Parts.{packet-at, each-part, all-part, words-append}
+
+-- the packet behind k others
+packet-at : (before here rest : List ℕ) (k : ℕ) → length before ≡ packetBytes * k → length here ≡ packetBytes
+    → packetAt (before ++ here ++ rest) k ≡ here
+packet-at before here rest k lb lh =
+    rw (append-assoc before here rest, drop-at before (here ++ rest) (packetBytes * k) lb) (take-at here rest packetBytes lh)
 
 -- ---- any thirteen packets whose values are in range
 

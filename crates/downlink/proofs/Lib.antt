@@ -1,4 +1,3 @@
-pub mod Parts
 pub mod Closed
 pub mod Ranges
 pub mod Lists

@@ -17,9 +17,9 @@ use Rattle.sample_record.specs.declared.Sample.{Sample}
 use Rattle.sample_record.specs.Record.{SampleFits, recordOf}
 use Rattle.sort.specs.declared.event.Event.{Event}
 use Rattle.sort.specs.Event.{inRange}
-use Rattle.sort.specs.Samples.{sampleFrom, eventRecord, sampled, slotsOf}
 use Rattle.sort.proofs.EventLaws.{outcome-names}
-use Rattle.sort.proofs.RecordLaws.{event-fits}
+use Rattle.samples.specs.Samples.{sampleFrom, eventRecord, sampled, slotsOf}
+use Rattle.samples.proofs.RecordLaws.{event-fits}
 use Rattle.command.specs.declared.command.Command.{Command}
 use Rattle.command.specs.declared.command.Command.the-variants.{Set, Load}
 use Rattle.command.specs.declared.command.Setting.the-variants.{Limhi, Eonly, Toferror, Junk, Hv, Hvstep}

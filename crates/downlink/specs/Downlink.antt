@@ -10,7 +10,7 @@ use Rattle.wire.specs.Lists.{EachBelow, all}
 use Rattle.settings.specs.declared.Settings.{Settings}
 use Rattle.settings.specs.Settings.{slotCount}
 use Rattle.sample_record.specs.Record.{recordGood}
-use Rattle.sort.specs.declared.counts.Counts.{Counts}
+use Rattle.counts.specs.declared.Counts.{Counts}
 use Rattle.tables.specs.Tables.{tableBytes}
 use Rattle.load.specs.Staging.{stagingBytes}
 use Rattle.packet.specs.Layout.{packetBytes, totalCount, boxCount, beaconCount}
@@ -20,7 +20,8 @@ use Rattle.packet.specs.TableSum.{tableSum}
 use Rattle.ground.specs.Ground.{readOf, recordsOf}
 use Rattle.ground.specs.Theorems.{rateRead, sampleRead, beaconRead}
 use Rattle.state.specs.declared.State.{State}
-use Rattle.processor.specs.Close.{samplePackets, outBytes, closeNumber, packetsOf, closeDone}
+use Rattle.output.specs.Output.{samplePackets, outBytes, packetsOf}
+use Rattle.processor.specs.Close.{closeNumber, closeDone}
 use Rattle.tally.specs.Calls.{own, Call, event, reading, line, load, close, Reply, answered, echoed, closed, numberOf}
 use Rattle.tally.specs.Calls.{World, freshWorld, next, reply, after, Lawful}
 use Rattle.tally.specs.Tally.{Tally, freshTally, countsOf, totalsOf, frameOf, ownSlots, tnext, tafter}

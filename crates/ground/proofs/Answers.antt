@@ -7,9 +7,9 @@ use lib.ListN.{length, take, drop}
 use borrow.Author.Tests.{eqb-true, eq-eqb, ne-eqb}
 use Rattle.wire.proofs.Lists.{and-left}
 use Rattle.packet.specs.Layout.{bodyAt, bodyBytes, packetBytes}
-use Rattle.packet.specs.declared.kind.Kind.{Kind}
-use Rattle.packet.specs.Read.{applicationOf, kindOf, readNumber}
-use Rattle.packet.proofs.Reading.{accepted-length}
+use Rattle.decode.specs.declared.kind.Kind.{Kind}
+use Rattle.decode.specs.Read.{applicationOf, kindOf, readNumber}
+use Rattle.decode.proofs.Reading.{accepted-length}
 use Rattle.ground.specs.Ground.{refused, contents, readOf, isSample, samplesIn, recordsOf}
 
 pub samples-length : (xs : List ℕ) → samplesIn xs ≡ true → length xs ≡ packetBytes

@@ -7,15 +7,15 @@ use lib.ListN.{length}
 use Rattle.causes.specs.Causes.{carriedOut}
 use Rattle.wire.specs.Bytes.{words, zeros}
 use Rattle.settings.specs.declared.Settings.{Settings}
-use Rattle.packet.specs.declared.kind.Kind.{Kind}
-use Rattle.packet.specs.declared.kind.Kind.the-variants.{Rate, Sample, Beacon}
+use Rattle.decode.specs.declared.kind.Kind.{Kind}
+use Rattle.decode.specs.declared.kind.Kind.the-variants.{Rate, Sample, Beacon}
 use Rattle.packet.specs.declared.stamp.Stamp.{Stamp}
 use Rattle.packet.specs.Layout.{secondaryFlag, sequenceCounts, innerBytes, bodyBytes, rateCount, beaconCount}
 use Rattle.packet.specs.Packet.{rateApplication, sampleApplication, beaconApplication, packetOf, rateBody, beaconBody}
 use Rattle.packet.specs.Packet.{trailer, ratePacket, samplePacket, beaconPacket}
 use Rattle.packet.proofs.Written.{length-inner}
-use Rattle.packet.proofs.Back as fields
-use Rattle.packet.proofs.Accepted as kinds
+use Rattle.decode.proofs.Back as fields
+use Rattle.decode.proofs.Accepted as kinds
 use Rattle.ground.specs.Ground.{noSettings, accepted, contents}
 use Rattle.ground.specs.Theorems.{stampRead, RateBack, SampleBack, BeaconBack}
 use Rattle.ground.proofs.Answers.{read-accepted, the-records}

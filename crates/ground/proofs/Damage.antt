@@ -14,11 +14,11 @@ use Rattle.packet.specs.declared.stamp.Stamp.{Stamp}
 use Rattle.packet.specs.Layout.{packetBytes, secondaryFlag, bodyBytes, beaconUnused}
 use Rattle.packet.specs.Packet.{rateApplication, sampleApplication, beaconApplication, lastSample, trailer, packetOf}
 use Rattle.packet.specs.Packet.{codes, settingsBytes, rateBody, beaconBody, ratePacket, samplePacket, beaconPacket}
-use Rattle.packet.specs.Read.{sumGood, readNumber}
+use Rattle.decode.specs.Read.{sumGood, readNumber}
 use Rattle.packet.specs.Ranges.{StampFits}
 use Rattle.packet.proofs.Written.{length-inner, length-packet, length-rate-body, length-sample-body, length-beacon-body}
-use Rattle.packet.proofs.Back.{sum-back}
-use Rattle.packet.proofs.Damage.{sum-wrong, wrong-number, bytes-codes, bytes-words, bytes-settings, bytes-packet}
+use Rattle.decode.proofs.Back.{sum-back}
+use Rattle.decode.proofs.Damage.{sum-wrong, wrong-number, bytes-codes, bytes-words, bytes-settings, bytes-packet}
 use Rattle.ground.specs.Ground.{refused, readOf}
 use Rattle.ground.specs.Theorems.{OneByteOff, Refused, DamageRefused, RateDamageRefused, SampleDamageRefused, BeaconDamageRefused}
 use Rattle.ground.proofs.Answers.{read-refused, no-records}

@@ -7,10 +7,10 @@ use lib.ListN.{take, drop}
 use Rattle.causes.specs.Causes.{carriedOut}
 use Rattle.wire.specs.Bytes.{zeros}
 use Rattle.settings.specs.declared.Settings.{Settings}
-use Rattle.packet.specs.declared.kind.Kind.{Kind}
-use Rattle.packet.specs.declared.kind.Kind.the-variants.{Rate, Sample, Beacon, None}
+use Rattle.decode.specs.declared.kind.Kind.{Kind}
+use Rattle.decode.specs.declared.kind.Kind.the-variants.{Rate, Sample, Beacon, None}
 use Rattle.packet.specs.Layout.{bodyAt, bodyBytes, rateCount, beaconCount}
-use Rattle.packet.specs.Read.{applicationOf, sequenceOf, timeOf, frameOf, markOf, kindOf, ratesOf, settingsOf, sumOf, readNumber}
+use Rattle.decode.specs.Read.{applicationOf, sequenceOf, timeOf, frameOf, markOf, kindOf, ratesOf, settingsOf, sumOf, readNumber}
 use Rattle.ground.specs.declared.Packet.{Packet}
 
 -- settings of zeros

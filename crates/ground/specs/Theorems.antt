@@ -10,13 +10,13 @@ use Rattle.causes.specs.Causes.{carriedOut, noHeader, packetSum}
 use Rattle.wire.specs.Bytes.{words, zeros}
 use Rattle.wire.specs.Lists.{EachBelow}
 use Rattle.settings.specs.declared.Settings.{Settings}
-use Rattle.packet.specs.declared.kind.Kind.{Kind}
-use Rattle.packet.specs.declared.kind.Kind.the-variants.{Rate, Sample, Beacon}
+use Rattle.decode.specs.declared.kind.Kind.{Kind}
+use Rattle.decode.specs.declared.kind.Kind.the-variants.{Rate, Sample, Beacon}
 use Rattle.packet.specs.declared.stamp.Stamp.{Stamp}
-use Rattle.packet.specs.Rate.{rateCode, leastCount}
+use Rattle.rate_code.specs.Rate.{rateCode, leastCount}
 use Rattle.packet.specs.Layout.{packetBytes, rateCount, beaconCount}
 use Rattle.packet.specs.Packet.{rateApplication, sampleApplication, beaconApplication, lastSample, ratePacket, samplePacket, beaconPacket}
-use Rattle.packet.specs.Read.{sumGood}
+use Rattle.decode.specs.Read.{sumGood}
 use Rattle.packet.specs.Ranges.{StampFits, RateValues, SampleValues, BeaconValues}
 use Rattle.ground.specs.declared.Packet.{Packet}
 use Rattle.ground.specs.Ground.{noSettings, refused, readOf, recordsOf}

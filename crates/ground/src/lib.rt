@@ -4,10 +4,10 @@ ghost use Rattle.ground.specs.Ground.{readOf, isSample, samplesIn, recor
 
 mod contents;
 
-use packet::faults::number;
-use packet::fields::application;
-use packet::kind::Kind;
-use packet::kind::kind_of;
+use decode::faults::number;
+use decode::fields::application;
+use decode::kind::Kind;
+use decode::kind::kind_of;
 use packet::layout::BEACONS;
 use packet::layout::BODY_AT;
 use packet::layout::FRAME_AT;

@@ -1,5 +1,5 @@
 // The number that each call answers.
-use crate::output;
+use crate::printing;
 use sort::event::Event;
 use state::State;
 
@@ -79,11 +79,11 @@ fn close_lent(s: State) -> u8 {
 
 // The numbers of all five calls for one state.
 pub fn all(name: &[u8], s: State) {
-    output::text(name);
-    output::number(event_lent(s));
-    output::number(reading(s));
-    output::number(line_lent(s));
-    output::number(package_lent(s));
-    output::number(close_lent(s));
-    output::text(b"\n");
+    printing::text(name);
+    printing::number(event_lent(s));
+    printing::number(reading(s));
+    printing::number(line_lent(s));
+    printing::number(package_lent(s));
+    printing::number(close_lent(s));
+    printing::text(b"\n");
 }

@@ -7,7 +7,7 @@ use crate::calls::OUT_BYTES;
 use crate::calls::SLOTS;
 use crate::calls::STAGING_BYTES;
 use crate::calls::TABLE_BYTES;
-use crate::output::one;
+use crate::printing::one;
 
 fn event_tables(name: &[u8], tables: &[u8]) {
     let mut slots = [0u32; SLOTS];

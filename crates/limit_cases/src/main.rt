@@ -5,7 +5,7 @@ mod commands;
 mod lengths;
 mod limits;
 mod loads;
-mod output;
+mod printing;
 mod slots;
 
 fn main() {

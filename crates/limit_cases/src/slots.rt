@@ -6,7 +6,7 @@ use crate::calls::OUT_BYTES;
 use crate::calls::SLOTS;
 use crate::calls::STAGING_BYTES;
 use crate::calls::TABLE_BYTES;
-use crate::output;
+use crate::printing;
 
 // One slot holds this record: the numbers of an event's call and of the close.
 fn slot(name: &[u8], at: usize, record: u32)
@@ -14,10 +14,10 @@ fn slot(name: &[u8], at: usize, record: u32)
 {
     let mut slots = [0u32; SLOTS];
     slots[at] = record;
-    output::text(name);
-    output::number(event(&mut slots));
-    output::number(close(&mut slots));
-    output::text(b"\n");
+    printing::text(name);
+    printing::number(event(&mut slots));
+    printing::number(close(&mut slots));
+    printing::text(b"\n");
 }
 
 fn event(slots: &mut [u32]) -> u8 {

@@ -9,10 +9,10 @@ use lib.ListN.{getD, take, drop, length-drop}
 use lib.Seq.{drop-drop}
 use Rattle.wire.proofs.Lists.{part-of-reach}
 use Rattle.state.specs.declared.State.{State}
-use Rattle.stream.specs.declared.input.Input.{Input}
-use Rattle.stream.specs.Input.{Held, waitingIn}
+use Rattle.buffered.specs.declared.input.Input.{Input}
+use Rattle.buffered.specs.Input.{Held, waitingIn}
 use Rattle.stream.specs.Record.{recordDone}
-use Rattle.stream.proofs.InputLaws.{waiting-byte}
+use Rattle.buffered.proofs.InputLaws.{waiting-byte}
 use Rattle.minute.specs.Events.{bodyOf, ranOf, EventsRun}
 
 -- ---- what waits, by its place in the buffer

@@ -4,11 +4,12 @@ use mathlib.Core.List.{List}
 use Prim.Native.Nat.{ℕ}
 use lib.Dec.{eqb}
 use Rattle.wire.specs.Bytes.{zeros, at32}
-use Rattle.command.specs.Echo.{echoBytes}
+use Rattle.echo.specs.Echo.{echoBytes}
 use Rattle.state.specs.declared.State.{State}
 use Rattle.processor.specs.declared.Answer.{Answer}
 use Rattle.processor.specs.Answer.{answer}
-use Rattle.processor.specs.Close.{outBytes, CloseDone, closeDone}
+use Rattle.output.specs.Output.{outBytes}
+use Rattle.processor.specs.Close.{CloseDone, closeDone}
 use Rattle.processor.specs.Line.{lineDone}
 use Rattle.processor.specs.Reading.{readingDone}
 use Rattle.stream.specs.Record.{countsIn}

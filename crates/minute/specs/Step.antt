@@ -5,8 +5,8 @@ use mathlib.Core.Path.{_≡_}
 use Prim.Native.Nat.{ℕ, _-_, _≤_, _<_}
 use lib.ListN.{take, drop}
 use Rattle.state.specs.declared.State.{State}
-use Rattle.stream.specs.declared.input.Input.{Input}
-use Rattle.stream.specs.Input.{Held, waitingIn}
+use Rattle.buffered.specs.declared.input.Input.{Input}
+use Rattle.buffered.specs.Input.{Held, waitingIn}
 use Rattle.stream.specs.declared.record.Next.{Next}
 use Rattle.stream.specs.declared.record.Next.the-variants.{End, Bad, Record}
 use Rattle.stream.specs.declared.record.Step.{Step}

@@ -4,19 +4,20 @@ ghost use mathlib.Core.Path.{_≡_};
 ghost use Prim.Native.Nat.{_-_, _≤_};
 ghost use lib.ListN.{length};
 ghost use Rattle.wire.specs.Bytes.{zeros, at32};
-ghost use Rattle.command.specs.Echo.{echoBytes};
+ghost use Rattle.echo.specs.Echo.{echoBytes};
 ghost use Rattle.processor.specs.Line.{lineDone};
-ghost use Rattle.processor.specs.Close.{outBytes, closeDone};
-ghost use Rattle.stream.specs.Input.{Held, waitingIn};
+ghost use Rattle.output.specs.Output.{outBytes};
+ghost use Rattle.processor.specs.Close.{closeDone};
+ghost use Rattle.buffered.specs.Input.{Held, waitingIn};
 ghost use Rattle.stream.specs.Record.{LongAs};
 ghost use Rattle.minute.specs.Calls.{closedTo, carriedOut};
 ghost use Rattle.minute.specs.Events.{EventsRun, NoEvent};
 ghost use Rattle.minute.specs.Line.{lineLength, lineIn};
+use buffered::input::Input;
+use counts::Counts;
 use processor::Answer;
 use processor::close::Closed;
-use sort::counts::Counts;
 use state::State;
-use stream::input::Input;
 use stream::record::Step;
 use stream::record::going_on;
 
@@ -42,22 +43,22 @@ fn line(state: State, body: &[u8]) -> Answer
     ensures { λ r. ⌜ r ≡ lineDone state (lineIn (now (body .entry))) (zeros echoBytes) .answer ⌝ }
 {
     let n = line_length(body);
-    let mut echo = [0u8; command::echo::ECHO_BYTES];
+    let mut echo = [0u8; echo::ECHO_BYTES];
     processor::line::line(state, &body[..n], &mut echo)
 }
 
 // The line of a refused call.
 pub fn print_refusal(text: &mut [u8], at: &mut usize, number: u8) {
-    stream::text::bytes(text, at, b"refused");
-    stream::text::number(text, at, number as u64);
-    stream::text::line_end(text, at);
+    buffered::text::bytes(text, at, b"refused");
+    buffered::text::number(text, at, number as u64);
+    buffered::text::line_end(text, at);
 }
 
 fn print_box(text: &mut [u8], at: &mut usize, counts: Counts, b: usize)
     requires { ⌜ (1 ≤ b) × (b ≤ 116) ⌝ }
 {
     let n = counts.boxes[b - 1];
-    stream::text::number(text, at, n as u64);
+    buffered::text::number(text, at, n as u64);
 }
 
 // The ended frame, taken, boxes 5, 6 and 7, and the filled slots. A refused close is printed as a refusal.
@@ -66,13 +67,13 @@ fn print_closed(text: &mut [u8], at: &mut usize, frame: u16, closed: Closed) {
         return;
     }
     let counts = closed.counts;
-    stream::text::decimal(text, at, frame as u64);
-    stream::text::number(text, at, closed.taken as u64);
+    buffered::text::decimal(text, at, frame as u64);
+    buffered::text::number(text, at, closed.taken as u64);
     print_box(text, at, counts, 5);
     print_box(text, at, counts, 6);
     print_box(text, at, counts, 7);
-    stream::text::number(text, at, closed.filled as u64);
-    stream::text::line_end(text, at);
+    buffered::text::number(text, at, closed.filled as u64);
+    buffered::text::line_end(text, at);
 }
 
 // The end of the interval. Its packets are not printed.
@@ -97,7 +98,7 @@ fn close(
         (zeros outBytes) .slots ⌝ }
 {
     let time = wire::read::u32_at(body, 0);
-    let mut packets = [0u8; processor::close::OUT_BYTES];
+    let mut packets = [0u8; output::OUT_BYTES];
     let closed = processor::close::close(state, time, tables, staging, slots, &mut packets);
     print_closed(text, at, state.frame, closed);
     let after = closed.state;

@@ -1,8 +1,8 @@
 // The records of minute: each kind has a body of one length.
 ghost use Prim.Native.Nat.{_≤_};
-ghost use Rattle.stream.specs.Input.{Held, waitingIn};
+ghost use Rattle.buffered.specs.Input.{Held, waitingIn};
 ghost use Rattle.minute.specs.Record.{Long, FirstOf};
-use stream::input::Input;
+use buffered::input::Input;
 use stream::record::Next;
 
 // A line's body, zero-filled.
@@ -24,7 +24,7 @@ pub fn next(buffer: &mut [u8], input: Input, text: &[u8], at: &mut usize) -> Nex
     requires { ⌜ Held input (now buffer) ⌝ }
     ensures { λ r. ⌜ FirstOf r (waitingIn input (now (buffer .entry))) (now (buffer .exit)) ⌝ }
 {
-    let one = stream::input::fill(buffer, input, 1, text, at);
+    let one = buffered::input::fill(buffer, input, 1, text, at);
     let start = one.at;
     if one.end == start {
         return Next::End;

@@ -9,7 +9,7 @@ use Rattle.wire.proofs.Bytes.{then, take-put, length-put, length-words}
 use Rattle.wire.proofs.Pieces.{runs-append, runs-take, length-runs, length-runs-take}
 use Rattle.settings.specs.declared.Settings.{Settings}
 use Rattle.packet.specs.declared.stamp.Stamp.{Stamp}
-use Rattle.packet.specs.Rate.{rateCode}
+use Rattle.rate_code.specs.Rate.{rateCode}
 use Rattle.packet.specs.Layout.{applicationAt, bodyAt, innerBytes, sumAt, packetBytes, bodyBytes, frameAt}
 use Rattle.packet.specs.Layout.{totalCount, boxCount, recordCount, beaconCount, beaconUnused}
 use Rattle.packet.specs.Packet.{rateApplication, sampleApplication, beaconApplication, header, summed, enveloped, trailer, packetOf}

@@ -6,7 +6,7 @@ use Rattle.wire.specs.Bytes.{one, zeros, be16, be24, be32, words, total}
 use Rattle.wire.specs.Pieces.{runs}
 use Rattle.settings.specs.declared.Settings.{Settings}
 use Rattle.packet.specs.declared.stamp.Stamp.{Stamp}
-use Rattle.packet.specs.Rate.{rateCode}
+use Rattle.rate_code.specs.Rate.{rateCode}
 pub use Rattle.packet.specs.Layout.{packetBytes}
 use Rattle.packet.specs.Layout.{secondaryFlag, sequenceFlags, sequenceCounts, lengthField}
 use Rattle.packet.specs.Layout.{hvFlag, eonlyFlag, toferrorFlag, junkFlag, beaconUnused}

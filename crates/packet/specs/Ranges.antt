@@ -9,7 +9,7 @@ use Rattle.settings.specs.declared.Settings.{Settings}
 use Rattle.settings.specs.Settings.{slotCount}
 use Rattle.sample_record.specs.Record.{recordGood}
 use Rattle.packet.specs.declared.stamp.Stamp.{Stamp}
-use Rattle.packet.specs.Rate.{countLimit}
+use Rattle.rate_code.specs.Rate.{countLimit}
 use Rattle.packet.specs.Layout.{sequenceCounts, totalCount, boxCount, recordCount, beaconCount}
 
 -- the sequence count has 14 bits, the time 32, the frame number 16; byte 269 goes to `marks`, which is 0 but in a sample packet;

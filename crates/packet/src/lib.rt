@@ -1,10 +1,7 @@
-// The packets of an interval: rate codes, writing, the table sum, reading.
+// The packets of an interval: layout, writing, the table sum.
+pub mod applications;
 mod envelope;
-pub mod faults;
-pub mod fields;
-pub mod kind;
 pub mod layout;
-mod rate;
 pub mod stamp;
 pub mod table_sum;
 pub mod write;

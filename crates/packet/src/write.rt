@@ -4,14 +4,16 @@ ghost use Prim.Native.Nat.{_+_, _*_, _≤_, _<_};
 ghost use lib.ListN.{length};
 ghost use Rattle.wire.specs.Bytes.{put};
 ghost use Rattle.wire.specs.Lists.{EachBelow};
-ghost use Rattle.packet.specs.Rate.{countLimit};
+ghost use Rattle.rate_code.specs.Rate.{countLimit};
 ghost use Rattle.packet.specs.Layout.{packetBytes, frameAt, sumAt, gapAt, codeBytes};
 ghost use Rattle.packet.specs.Layout.{totalCount, boxCount, recordCount, beaconCount};
 ghost use Rattle.packet.specs.Packet.{lastSample, trailer, codes, settingsFlags, settingsBytes};
 ghost use Rattle.packet.specs.Packet.{ratePacket, samplePacket, beaconPacket};
+use crate::applications::BEACON_APPLICATION;
+use crate::applications::RATE_APPLICATION;
+use crate::applications::SAMPLE_APPLICATION;
 use crate::envelope::write_header;
 use crate::envelope::write_sum;
-use crate::kind;
 use crate::layout;
 use crate::stamp::Stamp;
 use settings::Settings;
@@ -40,7 +42,7 @@ fn write_codes(part: &mut [u8], at: usize, counts: &[u32])
         put_u16(
             part,
             at + layout::CODE_BYTES * i,
-            crate::rate::encode(counts[i]),
+            rate_code::encode(counts[i]),
         );
         i += 1;
     }
@@ -84,7 +86,7 @@ pub fn write_rate<'a>(
     requires { ⌜ sum < 16777216 ⌝ }
     ensures { λ _. ⌜ now (part .exit) ≡ ratePacket stamp (now (totals .entry)) (now (boxes .entry)) settings sum ⌝ }
 {
-    write_header(part, kind::RATE_APPLICATION, stamp.sequence, stamp.time);
+    write_header(part, RATE_APPLICATION, stamp.sequence, stamp.time);
     write_codes(part, layout::BODY_AT, totals);
     write_codes(part, layout::BOXES_AT, boxes);
     write_settings(part, settings, sum);
@@ -100,7 +102,7 @@ pub fn write_samples(part: &mut [u8], stamp: Stamp, records: &[u32])
 {
     write_header(
         part,
-        kind::SAMPLE_APPLICATION + (stamp.mark as u16),
+        SAMPLE_APPLICATION + (stamp.mark as u16),
         stamp.sequence,
         stamp.time,
     );
@@ -115,7 +117,7 @@ pub fn write_beacon(part: &mut [u8], stamp: Stamp, beacons: &[u32])
     requires { ⌜ EachBelow countLimit (now beacons) ⌝ }
     ensures { λ _. ⌜ now (part .exit) ≡ beaconPacket stamp (now (beacons .entry)) ⌝ }
 {
-    write_header(part, kind::BEACON_APPLICATION, stamp.sequence, stamp.time);
+    write_header(part, BEACON_APPLICATION, stamp.sequence, stamp.time);
     write_codes(part, layout::BODY_AT, beacons);
     wire::write::put_zeros(part, layout::BEACON_END, layout::FRAME_AT);
     write_trailer(part, stamp);

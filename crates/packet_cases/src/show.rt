@@ -1,6 +1,6 @@
 // Lines of output.
+use decode::kind::Kind;
 use libc::STDOUT_FILENO;
-use packet::kind::Kind;
 use packet::layout::BEACONS;
 use packet::layout::RATES;
 use wire::bits::bit;

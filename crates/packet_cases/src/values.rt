@@ -1,7 +1,7 @@
 // Values for the packets, from a simple generator of numbers.
 ghost use Prim.Native.Nat.{_<_};
 ghost use Rattle.wire.specs.Lists.{EachBelow};
-ghost use Rattle.packet.specs.Rate.{countLimit};
+ghost use Rattle.rate_code.specs.Rate.{countLimit};
 
 // The number after x, below 2^24.
 fn next(x: u32) -> u32

@@ -19,7 +19,7 @@ use Rattle.sort.specs.Event.{inRange}
 use Rattle.load.specs.Staging.{stagingBytes, formed, fits, placeable, receivedSum, computedSum}
 use Rattle.command.specs.declared.command.Line.{Line}
 use Rattle.command.specs.Asked.{isWrong, isCommand, usesStaging}
-use Rattle.command.specs.Echo.{echoBytes}
+use Rattle.echo.specs.Echo.{echoBytes}
 use Rattle.command.specs.Grammar.{bytesOk, lineOf}
 use Rattle.orders.specs.Orders.{loadWaits, commandsFull}
 use Rattle.state.specs.declared.State.{State}
@@ -29,7 +29,8 @@ use Rattle.processor.specs.Event.{eventChecks, eventNumber}
 use Rattle.processor.specs.Reading.{readingChecks, readingNumber}
 use Rattle.processor.specs.Line.{commandChecks, lineChecks, lineNumber}
 use Rattle.processor.specs.Package.{isStaged, packageCallNumber}
-use Rattle.processor.specs.Close.{outBytes, closeChecks, closeNumber}
+use Rattle.output.specs.Output.{outBytes}
+use Rattle.processor.specs.Close.{closeChecks, closeNumber}
 
 -- ---- an event
 

@@ -1,4 +1,3 @@
 pub mod CallLaws
-pub mod OutputLaws
 pub mod LimitsKept
 pub mod Lowest

@@ -14,13 +14,14 @@ use Rattle.wire.proofs.Pieces.{table-most}
 use Rattle.settings.specs.declared.Settings.{Settings}
 use Rattle.settings.specs.Settings.{slotCount}
 use Rattle.sort.specs.declared.event.Event.{Event}
-use Rattle.sort.specs.declared.slots.SlotUse.{SlotUse}
 use Rattle.sort.specs.declared.sorting.Outcome.{Outcome}
-use Rattle.sort.specs.Counts.{boxesOf, beaconsOf, countedOf, OutcomeNames}
-use Rattle.sort.specs.Samples.{Place, free, late, none, eligible, priorityOf, placeOf, useAfter}
+use Rattle.sort.specs.Boxes.{OutcomeNames}
 use Rattle.sort.specs.Sorting.{outcomeOf}
 use Rattle.sort.proofs.EventLaws.{outcome-names}
-use Rattle.sort.proofs.TalliedLaws.{tallied-most, boxes-differ, beacons-differ}
+use Rattle.counts.specs.Counts.{boxesOf, beaconsOf, countedOf}
+use Rattle.counts.proofs.TalliedLaws.{tallied-most, boxes-differ, beacons-differ}
+use Rattle.samples.specs.declared.slots.SlotUse.{SlotUse}
+use Rattle.samples.specs.Samples.{Place, free, late, none, eligible, priorityOf, placeOf, useAfter}
 use Rattle.load.specs.declared.staging.Addresses.{Addresses}
 use Rattle.load.specs.Staging.{formed, fits, addressesWithin}
 use Rattle.load.proofs.StagingLaws.{addresses-are, addresses-whole, addresses-after, fresh-addresses}

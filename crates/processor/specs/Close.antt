@@ -1,36 +1,26 @@
 -- The call `close` (document 01, "One event", "Commands and loads", "Packets"). Assumes nothing.
 use mathlib.Core.Bool.{_&&_}
-use mathlib.Core.List.{List, [], _∷_, _++_}
-use Prim.Native.Nat.{ℕ, zero, suc, _+_, _*_, _%_}
+use mathlib.Core.List.{List, [], _∷_}
+use Prim.Native.Nat.{ℕ, _+_, _%_}
 use lib.Dec.{eqb}
-use lib.ListN.{length, take, drop}
+use lib.ListN.{length}
 use Rattle.causes.specs.Causes as cause
 use Rattle.causes.specs.Checks.{Check, numberBy}
 use Rattle.wire.specs.Bytes.{zeros}
 use Rattle.wire.specs.Lists.{all}
-use Rattle.settings.specs.declared.Settings.{Settings}
 use Rattle.settings.specs.Settings.{slotCount}
 use Rattle.tables.specs.Tables.{tableBytes}
 use Rattle.sample_record.specs.Record.{recordGood}
-use Rattle.sort.specs.declared.counts.Counts.{Counts}
-use Rattle.sort.specs.Samples.{filled}
-use Rattle.packet.specs.Packet.{packetBytes, stampOf, ratePacket, samplePacket, beaconPacket}
-use Rattle.packet.specs.TableSum.{tableSum}
+use Rattle.samples.specs.Samples.{filled}
 use Rattle.load.specs.Staging.{stagingBytes}
 use Rattle.orders.specs.Orders.{waitingOf, freshOrders}
 use Rattle.orders.specs.Run.{settingsAfterAll, tablesAfterAll, addressesAfterAll}
+use Rattle.output.specs.Output.{outBytes, packetsOf}
 use Rattle.state.specs.declared.State.{State}
 use Rattle.state.specs.Interval.{noCounts, freshInterval}
 use Rattle.state.specs.Limits.{withinLimits}
 use Rattle.processor.specs.declared.close.Closed.{Closed}
 use Rattle.processor.specs.Answer.{ifCarriedOut}
-
--- "Close writes 13 × 272 bytes": a rate packet, eleven of samples, a beacon packet
-abbrev pub samplePackets : ℕ
-samplePackets = 11
-
-abbrev pub outBytes : ℕ
-outBytes = 13 * packetBytes
 
 -- "lent buffer .. of other length", from the lengths of tables, staging and output, "or a state over a limit"; "at close, each slot
 -- zero or of box 6 to 116"
@@ -44,21 +34,6 @@ closeChecks s tables staging slots out = (
 
 unfoldable pub closeNumber : State → (tables staging : ℕ) (slots : List ℕ) (out : ℕ) → ℕ
 closeNumber s tables staging slots out = numberBy (closeChecks s tables staging slots out)
-
--- ---- the packets, "from the ending interval's settings and tables"
-
--- sample packets 0 to n - 1: "packet p .. has slots 64p to 64p + 63"
-unfoldable pub samplesOf : (frame time : ℕ) (slots : List ℕ) (n : ℕ) → List ℕ
-samplesOf frame time slots zero = []
-samplesOf frame time slots (suc n) =
-    samplesOf frame time slots n ++ samplePacket (stampOf frame time n) (take 64 (drop (64 * n) slots))
-
--- all thirteen
-unfoldable pub packetsOf : (frame time : ℕ) (totals : List ℕ) (counts : Counts) (settings : Settings) (tables slots : List ℕ) → List ℕ
-packetsOf frame time totals counts settings tables slots =
-    ratePacket (stampOf frame time 0) totals (counts .boxes) settings (tableSum tables)
-    ++ samplesOf frame time slots samplePackets
-    ++ beaconPacket (stampOf frame time 0) (counts .beacons)
 
 -- ---- the state after
 

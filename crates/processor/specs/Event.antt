@@ -10,12 +10,12 @@ use Rattle.settings.specs.declared.Settings.{Settings}
 use Rattle.settings.specs.Settings.{slotCount}
 use Rattle.tables.specs.Tables.{tableBytes}
 use Rattle.sort.specs.declared.event.Event.{Event}
-use Rattle.sort.specs.declared.slots.SlotUse.{SlotUse}
 use Rattle.sort.specs.declared.sorting.Outcome.{Outcome}
-use Rattle.sort.specs.Counts.{countedOf}
 use Rattle.sort.specs.Event.{inRange}
-use Rattle.sort.specs.Samples.{Place, none, eligible, priorityOf, eventRecord, placeOf, slotsAfter, useAfter}
 use Rattle.sort.specs.Sorting.{outcomeOf}
+use Rattle.counts.specs.Counts.{countedOf}
+use Rattle.samples.specs.declared.slots.SlotUse.{SlotUse}
+use Rattle.samples.specs.Samples.{Place, none, eligible, priorityOf, eventRecord, placeOf, slotsAfter, useAfter}
 use Rattle.state.specs.declared.State.{State}
 use Rattle.state.specs.declared.interval.Interval.{Interval}
 use Rattle.state.specs.Interval.{mostEvents, withEvent}

@@ -10,7 +10,7 @@ use Rattle.load.specs.declared.staging.Addresses.{Addresses}
 use Rattle.load.specs.Staging.{freshAddresses}
 use Rattle.command.specs.declared.command.Line.{Line}
 use Rattle.command.specs.declared.command.Line.the-variants.{Empty, Wrong, Waits, LoadZero, LoadAt}
-use Rattle.command.specs.Echo.{echoBytes, acceptedEcho, refusedEcho, promptEcho}
+use Rattle.echo.specs.Echo.{echoBytes, acceptedEcho, refusedEcho, promptEcho}
 use Rattle.command.specs.Asked.{isWrong, isCommand, usesStaging}
 use Rattle.command.specs.Grammar.{bytesOk, lineOf}
 use Rattle.orders.specs.declared.Orders.{Orders}

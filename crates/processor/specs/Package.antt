@@ -6,7 +6,7 @@ use lib.Dec.{eqb}
 use lib.ListN.{length}
 use Rattle.causes.specs.Causes as cause
 use Rattle.causes.specs.Checks.{Check, numberBy}
-use Rattle.command.specs.Echo.{echoBytes, packageOkEcho, packageErrorEcho}
+use Rattle.echo.specs.Echo.{echoBytes, packageOkEcho, packageErrorEcho}
 use Rattle.load.specs.Staging.{stagingBytes, payloadBytes, receivedSum, computedSum, packageChecks, stagingAfter, addressesAfter}
 use Rattle.orders.specs.Orders.{loadWaits}
 use Rattle.state.specs.declared.State.{State}

@@ -4,12 +4,8 @@ ghost use Prim.Native.Nat.{_+_, _%_};
 ghost use Rattle.state.specs.Interval.{noCounts};
 ghost use Rattle.processor.specs.Close.{closeNumber, stateClosed, closeDone};
 use causes::unless;
-use packet::layout::PACKET_BYTES;
-use sort::counts::Counts;
+use counts::Counts;
 use state::State;
-
-// The length of the output: thirteen packets.
-pub const OUT_BYTES: usize = 13 * PACKET_BYTES;
 
 // What a close hands back: its number and the state; where it was carried out, the counts of the interval that
 // ended, and otherwise zeros.
@@ -26,12 +22,12 @@ fn close_number(s: State, tables: usize, staging: usize, slots: &[u32], out: usi
     ensures { λ r. ⌜ r ≡ closeNumber s tables staging (now (slots .entry)) out ⌝ }
 {
     let limits = state::limits::within_limits(s);
-    let good = crate::slots::all_good(slots);
+    let good = samples::at_close::all_good(slots);
     let sound = limits
         & (tables == tables::TABLE_BYTES)
         & (staging == load::staging::STAGING_BYTES)
         & (slots.len() == settings::SLOTS as usize)
-        & (out == OUT_BYTES)
+        & (out == output::OUT_BYTES)
         & good;
     unless(sound, causes::BUFFER_OR_STATE, causes::CARRIED_OUT)
 }
@@ -91,8 +87,8 @@ pub fn close(
     if number != causes::CARRIED_OUT {
         return refused(number, state);
     }
-    let filled = crate::slots::filled(slots);
-    crate::output::write_packets(
+    let filled = samples::at_close::filled(slots);
+    output::write_packets(
         state.frame,
         time,
         state.interval,
@@ -102,7 +98,7 @@ pub fn close(
         out,
     );
     orders::run_loads(tables, staging, state.staging.reach, state.orders);
-    crate::slots::clear(slots);
+    samples::at_close::clear(slots);
     let counts = state.interval.counts;
     let after = closed_state(state);
     Closed {

@@ -4,10 +4,10 @@ ghost use mathlib.Core.Bool.{true};
 ghost use Prim.Native.Nat.{_≤_, _<_};
 ghost use lib.ListN.{length};
 ghost use Rattle.settings.specs.Settings.{slotCount};
-ghost use Rattle.sort.specs.Counts.{OutcomeNames};
+ghost use Rattle.sort.specs.Boxes.{OutcomeNames};
 ghost use Rattle.sort.specs.Event.{inRange};
-ghost use Rattle.sort.specs.Samples.{useAfter};
 ghost use Rattle.sort.specs.Sorting.{outcomeOf};
+ghost use Rattle.samples.specs.Samples.{useAfter};
 ghost use Rattle.state.specs.Interval.{mostEvents};
 ghost use Rattle.state.specs.Limits.{withinLimits};
 ghost use Rattle.state.specs.State.{withInterval};
@@ -15,9 +15,9 @@ ghost use Rattle.tables.specs.Tables.{tableBytes};
 ghost use Rattle.processor.specs.Event.{eventNumber, placeFor, slotsTaken, intervalTaken, eventDone};
 use crate::Answer;
 use causes::unless;
+use samples::slots::SlotUse;
 use settings::Settings;
 use sort::event::Event;
-use sort::slots::SlotUse;
 use sort::sorting::Outcome;
 use state::State;
 use state::interval::MOST_EVENTS;
@@ -44,13 +44,13 @@ fn place_record(kept: SlotUse, s: Settings, slots: &mut [u32], e: Event, o: Outc
     ensures slots { λ r. ⌜ now (slots .exit) ≡ slotsTaken kept s (now (slots .entry)) e o ⌝ }
     ensures kept { λ r. ⌜ r ≡ useAfter (placeFor kept s o) kept ⌝ }
 {
-    if !sort::samples::eligible(s.junk, o) {
+    if !samples::eligible(s.junk, o) {
         return kept;
     }
     let limhi = s.limhi as usize;
-    let word = sort::samples::record_of(e, o);
-    let priority = sort::samples::priority_of(o);
-    sort::slots::place(slots, kept, limhi, word, priority)
+    let word = samples::record_of(e, o);
+    let priority = samples::priority_of(o);
+    samples::slots::place(slots, kept, limhi, word, priority)
 }
 
 // The state with one event more.
@@ -66,7 +66,7 @@ fn take_event(s: State, tables: &[u8], slots: &mut [u32], e: Event) -> State
 {
     let o = sort::sorting::outcome_of(s.settings, tables, e);
     let samples = place_record(s.interval.samples, s.settings, slots, e, o);
-    let counts = sort::counts::counted(s.interval.counts, o);
+    let counts = counts::counted(s.interval.counts, o);
     let mut i = s.interval;
     i.taken = i.taken + 1;
     i.counts = counts;

@@ -3,9 +3,7 @@ pub mod close;
 pub mod event;
 pub mod line;
 pub mod load_package;
-mod output;
 pub mod reading;
-mod slots;
 
 use state::State;
 

@@ -4,7 +4,7 @@ ghost use mathlib.Core.Bool.{true};
 ghost use Prim.Native.Nat.{_≤_, _<_};
 ghost use lib.ListN.{length};
 ghost use Rattle.causes.specs.Checks.{numberBy};
-ghost use Rattle.command.specs.Echo.{echoBytes};
+ghost use Rattle.echo.specs.Echo.{echoBytes};
 ghost use Rattle.command.specs.Grammar.{bytesOk};
 ghost use Rattle.orders.specs.Orders.{mostCommands, loadWaits, commandsFull, pushed, counted};
 ghost use Rattle.state.specs.Limits.{withinLimits};
@@ -84,9 +84,9 @@ fn echo_told(frame: u16, accepted: usize, line: &[u8], echo: &mut [u8])
     ensures { λ _. ⌜ now (echo .exit) ≡ toldEcho frame accepted (now (line .entry)) ⌝ }
 {
     if line.len() == 0 {
-        command::echo::write_prompt(echo);
+        echo::write_prompt(echo);
     } else {
-        command::echo::write_accepted(echo, frame, accepted as u8, line);
+        echo::write_accepted(echo, frame, accepted as u8, line);
     }
 }
 
@@ -102,7 +102,7 @@ fn take_line(state: State, line: &[u8], echo: &mut [u8]) -> Answer
     let full = orders::full(state.orders);
     let number = command_number(waits, full, asked);
     if number != causes::CARRIED_OUT {
-        command::echo::write_refused(echo, line);
+        echo::write_refused(echo, line);
         return Answer { number, state };
     }
     echo_told(state.frame, state.orders.accepted, line, echo);
@@ -119,7 +119,7 @@ pub fn line(state: State, line: &[u8], echo: &mut [u8]) -> Answer
     ensures echo { λ r. ⌜ now (echo .exit) ≡ lineDone state (now (line .entry)) (now (echo .entry)) .echo ⌝ }
 {
     let limits = state::limits::within_limits(state);
-    let sound = limits & (echo.len() == command::echo::ECHO_BYTES);
+    let sound = limits & (echo.len() == echo::ECHO_BYTES);
     let bytes = command::line::bytes_ok(line);
     let other = unless(bytes, causes::LINE_BYTES, causes::CARRIED_OUT);
     let number = unless(sound, causes::BUFFER_OR_STATE, other);

@@ -2,7 +2,7 @@
 ghost use mathlib.Core.Path.{_≡_};
 ghost use mathlib.Core.Bool.{true};
 ghost use lib.ListN.{length};
-ghost use Rattle.command.specs.Echo.{echoBytes};
+ghost use Rattle.echo.specs.Echo.{echoBytes};
 ghost use Rattle.load.specs.Staging.{stagingBytes, formed, placeable, stagingAfter, addressesAfter};
 ghost use Rattle.state.specs.State.{withStaging};
 ghost use Rattle.processor.specs.Package.{isStaged, packageCallNumber, stagedEcho, packageDone};
@@ -15,9 +15,7 @@ fn package_number(s: State, bytes: &[u8], staging: usize, echo: usize) -> u8
     ensures { λ r. ⌜ r ≡ packageCallNumber s (now (bytes .entry)) staging echo ⌝ }
 {
     let limits = state::limits::within_limits(s);
-    let sound = limits
-        & (staging == load::staging::STAGING_BYTES)
-        & (echo == command::echo::ECHO_BYTES);
+    let sound = limits & (staging == load::staging::STAGING_BYTES) & (echo == echo::ECHO_BYTES);
     let waits = orders::load_waits(s.orders);
     let judged = load::staging::judge(bytes, s.staging.next);
     let free = unless(!waits, causes::LOAD_WAITS, judged);
@@ -38,11 +36,11 @@ fn echo_staged(number: u8, next: u32, bytes: &[u8], echo: &mut [u8])
 {
     let many = load::staging::payload_bytes(bytes);
     if number == causes::CARRIED_OUT {
-        command::echo::write_package_ok(echo, next, many);
+        echo::write_package_ok(echo, next, many);
     } else {
         let received = load::staging::received_sum(bytes);
         let computed = load::staging::computed_sum(bytes);
-        command::echo::write_package_error(echo, next, many, received, computed);
+        echo::write_package_error(echo, next, many, received, computed);
     }
 }
 

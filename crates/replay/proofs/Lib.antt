@@ -1,2 +1,3 @@
--- Laws of records.
+-- Laws of records and of what they leave.
 mod RecordLaws
+mod CallLaws

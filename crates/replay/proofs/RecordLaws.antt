@@ -7,12 +7,12 @@ use native.Mathlib.Nat.{add-assoc}
 use native.Mathlib.Omega.{arith}
 use lib.ListN.{getD}
 use Rattle.wire.specs.Bytes.{at16}
-use Rattle.stream.specs.declared.input.Input.{Input}
-use Rattle.stream.specs.Input.{Held, waitingIn}
+use Rattle.buffered.specs.declared.input.Input.{Input}
+use Rattle.buffered.specs.Input.{Held, waitingIn}
 use Rattle.stream.specs.Record.{LongAs, FoundIn, IsOf}
 use Rattle.stream.specs.declared.record.Next.{Next}
 use Rattle.stream.specs.declared.record.Next.the-variants.{End, Bad, Record}
-use Rattle.stream.proofs.InputLaws.{byte-same}
+use Rattle.buffered.proofs.InputLaws.{byte-same}
 use Rattle.replay.specs.Record.{isCounted, BodyLong, FirstOf}
 use Rattle.replay.specs.Step.{LiesIn}
 

@@ -1,11 +1,13 @@
 -- A record of replay, carried out: the call of its kind. Assumes nothing.
 use mathlib.Core.Bool.{cond}
 use mathlib.Core.List.{List}
+use mathlib.Core.Path.{_≡_}
 use Prim.Native.Nat.{ℕ}
 use lib.Dec.{eqb}
 use Rattle.wire.specs.Bytes.{zeros, at32}
 use Rattle.state.specs.declared.State.{State}
-use Rattle.processor.specs.Close.{outBytes, closeDone}
+use Rattle.output.specs.Output.{outBytes}
+use Rattle.processor.specs.Close.{closeDone}
 use Rattle.processor.specs.Line.{lineDone}
 use Rattle.processor.specs.Package.{packageDone}
 use Rattle.processor.specs.Reading.{readingDone}
@@ -36,3 +38,12 @@ carriedOut kind s tables staging slots echo body =
     (cond (eqb kind 4) (carried (close .answer .state) (close .tables) staging (close .slots) echo)
     (cond (eqb kind 5) (carried (loaded .answer .state) tables (loaded .staging) slots (loaded .echo))
     (carried s tables staging slots echo)))))
+
+-- this state and these buffers are those that were carried
+abbrev pub Left : Carried → State → (tables staging slots echo : List ℕ) → Type 0
+Left done s tables staging slots echo =
+    (s ≡ done .state)
+    × (tables ≡ done .tables)
+    × (staging ≡ done .staging)
+    × (slots ≡ done .slots)
+    × (echo ≡ done .echo)

@@ -5,12 +5,12 @@ use mathlib.Core.Path.{_≡_}
 use Prim.Native.Nat.{ℕ, _-_, _≤_}
 use lib.ListN.{take, drop}
 use Rattle.state.specs.declared.State.{State}
-use Rattle.stream.specs.Input.{Held}
+use Rattle.buffered.specs.Input.{Held}
 use Rattle.stream.specs.Record.{LongAs}
 use Rattle.stream.specs.declared.record.Next.{Next}
 use Rattle.stream.specs.declared.record.Next.the-variants.{End, Bad, Record}
 use Rattle.stream.specs.declared.record.Step.{Step}
-use Rattle.replay.specs.Calls.{carriedOut}
+use Rattle.replay.specs.Calls.{carriedOut, Left}
 
 -- the record's body lies in the buffer, and the rest of the input behind it
 abbrev pub LiesIn : Next → (buffer : List ℕ) → Type 0
@@ -33,11 +33,7 @@ Stepped Bad s tables staging slots echo buffer r tables′ staging′ slots′ e
     Same s tables staging slots echo r tables′ staging′ slots′ echo′
 Stepped (Record kind start from rest) s tables staging slots echo buffer r tables′ staging′ slots′ echo′ =
     let done = carriedOut kind s tables staging slots echo (take (rest .at - from) (drop from buffer)) in
-    (r .state ≡ done .state)
-    × (tables′ ≡ done .tables)
-    × (staging′ ≡ done .staging)
-    × (slots′ ≡ done .slots)
-    × (echo′ ≡ done .echo)
+    Left done (r .state) tables′ staging′ slots′ echo′
     × (r .input .at ≡ rest .at)
     × (r .input .end ≡ rest .end)
     × (r .more ≡ true)

@@ -2,17 +2,14 @@
 ghost use mathlib.Core.Path.{_≡_};
 ghost use lib.ListN.{length};
 ghost use Rattle.wire.specs.Bytes.{zeros, at32};
-ghost use Rattle.processor.specs.Close.{outBytes, closeDone};
+ghost use Rattle.output.specs.Output.{outBytes};
+ghost use Rattle.processor.specs.Close.{closeDone};
 ghost use Rattle.processor.specs.Line.{lineDone};
 ghost use Rattle.processor.specs.Package.{packageDone};
 ghost use Rattle.processor.specs.Reading.{readingDone};
 ghost use Rattle.stream.specs.Record.{LongAs, countsIn, recordDone};
-ghost use Rattle.replay.specs.Calls.{carriedOut};
-use crate::packets::print_packet;
+ghost use Rattle.replay.specs.Calls.{carriedOut, Left};
 use crate::records::PACKAGE;
-use processor::Answer;
-use processor::close::Closed;
-use sort::counts::Counts;
 use state::State;
 
 fn event(
@@ -22,45 +19,32 @@ fn event(
     body: &[u8],
     text: &mut [u8],
     at: &mut usize,
-) -> Answer
+) -> State
     requires { ⌜ length (now body) ≡ 7 ⌝ }
-    ensures answer { λ r. ⌜ r ≡ recordDone state (now (tables .entry)) (now (slots .entry)) (now (body .entry)) .answer ⌝ }
+    ensures answer { λ r. ⌜ r ≡ recordDone state (now (tables .entry)) (now (slots .entry)) (now (body .entry)) .answer .state ⌝ }
     ensures slots { λ r. ⌜ now (slots .exit) ≡ recordDone state (now (tables .entry)) (now (slots .entry)) (now (body .entry)) .slots ⌝ }
 {
     let answer = stream::record::event(state, tables, slots, body);
-    stream::text::bytes(text, at, b"event");
-    stream::text::number(text, at, answer.number as u64);
-    stream::text::line_end(text, at);
-    answer
+    answers::calls::print_event(text, at, answer.number);
+    answer.state
 }
 
-fn reading(state: State, body: &[u8], text: &mut [u8], at: &mut usize) -> Answer
+fn reading(state: State, body: &[u8], text: &mut [u8], at: &mut usize) -> State
     requires { ⌜ length (now body) ≡ 16 ⌝ }
-    ensures { λ r. ⌜ r ≡ readingDone state (countsIn (now (body .entry))) ⌝ }
+    ensures { λ r. ⌜ r ≡ readingDone state (countsIn (now (body .entry))) .state ⌝ }
 {
     let answer = stream::record::reading(state, body);
-    stream::text::bytes(text, at, b"reading");
-    stream::text::number(text, at, answer.number as u64);
-    stream::text::line_end(text, at);
-    answer
+    answers::calls::print_reading(text, at, answer.number);
+    answer.state
 }
 
-// The number and the whole echo buffer.
-fn print_echo(text: &mut [u8], at: &mut usize, number: u8, echo: &[u8]) {
-    stream::text::number(text, at, number as u64);
-    stream::text::byte(text, at, b' ');
-    stream::text::hex(text, at, echo);
-    stream::text::line_end(text, at);
-}
-
-fn line(state: State, echo: &mut [u8], body: &[u8], text: &mut [u8], at: &mut usize) -> Answer
-    ensures answer { λ r. ⌜ r ≡ lineDone state (now (body .entry)) (now (echo .entry)) .answer ⌝ }
+fn line(state: State, echo: &mut [u8], body: &[u8], text: &mut [u8], at: &mut usize) -> State
+    ensures answer { λ r. ⌜ r ≡ lineDone state (now (body .entry)) (now (echo .entry)) .answer .state ⌝ }
     ensures echo { λ r. ⌜ now (echo .exit) ≡ lineDone state (now (body .entry)) (now (echo .entry)) .echo ⌝ }
 {
     let answer = processor::line::line(state, body, echo);
-    stream::text::bytes(text, at, b"line");
-    print_echo(text, at, answer.number, echo);
-    answer
+    answers::calls::print_line(text, at, answer.number, echo);
+    answer.state
 }
 
 fn package(
@@ -70,63 +54,15 @@ fn package(
     body: &[u8],
     text: &mut [u8],
     at: &mut usize,
-) -> Answer
-    ensures answer { λ r. ⌜ r ≡ packageDone state (now (body .entry)) (now (staging .entry)) (now (echo .entry)) .answer ⌝ }
+) -> State
+    ensures answer { λ r. ⌜ r ≡ packageDone state (now (body .entry)) (now (staging .entry)) (now (echo .entry)) .answer .state ⌝ }
     ensures staging { λ r. ⌜ now (staging .exit)
         ≡ packageDone state (now (body .entry)) (now (staging .entry)) (now (echo .entry)) .staging ⌝ }
     ensures echo { λ r. ⌜ now (echo .exit) ≡ packageDone state (now (body .entry)) (now (staging .entry)) (now (echo .entry)) .echo ⌝ }
 {
     let answer = processor::load_package::package(state, body, staging, echo);
-    stream::text::bytes(text, at, b"package");
-    print_echo(text, at, answer.number, echo);
-    answer
-}
-
-// A line for the boxes and one for the beacons.
-fn print_counts(text: &mut [u8], at: &mut usize, counts: Counts) {
-    stream::text::bytes(text, at, b"boxes");
-    stream::text::numbers(text, at, &counts.boxes);
-    stream::text::line_end(text, at);
-    stream::text::bytes(text, at, b"beacons");
-    stream::text::numbers(text, at, &counts.beacons);
-    stream::text::line_end(text, at);
-}
-
-fn print_out(text: &mut [u8], at: &mut usize, packet: &[u8]) {
-    stream::text::bytes(text, at, b"out ");
-    stream::text::hex(text, at, packet);
-    stream::text::line_end(text, at);
-}
-
-// A line for each packet.
-fn print_packets(text: &mut [u8], at: &mut usize, packets: &[u8]) {
-    let mut rest = packets;
-    while packet::layout::PACKET_BYTES <= rest.len() {
-        print_out(text, at, &rest[0..packet::layout::PACKET_BYTES]);
-        rest = &rest[packet::layout::PACKET_BYTES..];
-    }
-}
-
-// The ended frame, taken, the filled slots, the counts and the packets.
-fn print_closed(text: &mut [u8], at: &mut usize, frame: u16, closed: Closed, packets: &[u8]) {
-    let counts = closed.counts;
-    stream::text::number(text, at, frame as u64);
-    stream::text::number(text, at, closed.taken as u64);
-    stream::text::number(text, at, closed.filled as u64);
-    stream::text::line_end(text, at);
-    print_counts(text, at, counts);
-    print_packets(text, at, packets);
-}
-
-// Behind the number: nothing of a refused close.
-fn print_close(text: &mut [u8], at: &mut usize, frame: u16, closed: Closed, packets: &[u8]) {
-    stream::text::bytes(text, at, b"close");
-    stream::text::number(text, at, closed.number as u64);
-    if closed.number == causes::CARRIED_OUT {
-        print_closed(text, at, frame, closed, packets);
-    } else {
-        stream::text::line_end(text, at);
-    }
+    answers::calls::print_package(text, at, answer.number, echo);
+    answer.state
 }
 
 // The packets are printed only where the close has filled them whole.
@@ -138,11 +74,11 @@ fn close(
     body: &[u8],
     text: &mut [u8],
     at: &mut usize,
-) -> Closed
+) -> State
     requires { ⌜ length (now body) ≡ 4 ⌝ }
     ensures answer { λ r. ⌜ r
         ≡ closeDone state (at32 (now (body .entry)) 0) (now (tables .entry)) (now (staging .entry)) (now (slots .entry))
-        (zeros outBytes) .answer ⌝ }
+        (zeros outBytes) .answer .state ⌝ }
     ensures tables { λ r. ⌜ now (tables .exit)
         ≡ closeDone state (at32 (now (body .entry)) 0) (now (tables .entry)) (now (staging .entry)) (now (slots .entry))
         (zeros outBytes) .tables ⌝ }
@@ -151,10 +87,10 @@ fn close(
         (zeros outBytes) .slots ⌝ }
 {
     let time = wire::read::u32_at(body, 0);
-    let mut packets = [0u8; processor::close::OUT_BYTES];
+    let mut packets = [0u8; output::OUT_BYTES];
     let closed = processor::close::close(state, time, tables, staging, slots, &mut packets);
-    print_close(text, at, state.frame, closed, &packets);
-    closed
+    answers::close::print_close(text, at, state.frame, closed, &packets);
+    closed.state
 }
 
 // One record.
@@ -170,30 +106,18 @@ pub fn carry_out(
     at: &mut usize,
 ) -> State
     requires { ⌜ LongAs kind (length (now body)) ⌝ }
-    ensures state { λ r. ⌜ r
-        ≡ carriedOut kind state (now (tables .entry)) (now (staging .entry)) (now (slots .entry)) (now (echo .entry))
-        (now (body .entry)) .state ⌝ }
-    ensures tables { λ r. ⌜ now (tables .exit)
-        ≡ carriedOut kind state (now (tables .entry)) (now (staging .entry)) (now (slots .entry)) (now (echo .entry))
-        (now (body .entry)) .tables ⌝ }
-    ensures staging { λ r. ⌜ now (staging .exit)
-        ≡ carriedOut kind state (now (tables .entry)) (now (staging .entry)) (now (slots .entry)) (now (echo .entry))
-        (now (body .entry)) .staging ⌝ }
-    ensures slots { λ r. ⌜ now (slots .exit)
-        ≡ carriedOut kind state (now (tables .entry)) (now (staging .entry)) (now (slots .entry)) (now (echo .entry))
-        (now (body .entry)) .slots ⌝ }
-    ensures echo { λ r. ⌜ now (echo .exit)
-        ≡ carriedOut kind state (now (tables .entry)) (now (staging .entry)) (now (slots .entry)) (now (echo .entry))
-        (now (body .entry)) .echo ⌝ }
+    ensures { λ r. ⌜ Left
+        (carriedOut kind state (now (tables .entry)) (now (staging .entry)) (now (slots .entry)) (now (echo .entry)) (now (body .entry)))
+        r (now (tables .exit)) (now (staging .exit)) (now (slots .exit)) (now (echo .exit)) ⌝ }
 {
     match kind {
-        stream::record::EVENT => event(state, tables, slots, body, text, at).state,
-        stream::record::READING => reading(state, body, text, at).state,
-        stream::record::LINE => line(state, echo, body, text, at).state,
-        stream::record::CLOSE => close(state, tables, staging, slots, body, text, at).state,
-        PACKAGE => package(state, staging, echo, body, text, at).state,
+        stream::record::EVENT => event(state, tables, slots, body, text, at),
+        stream::record::READING => reading(state, body, text, at),
+        stream::record::LINE => line(state, echo, body, text, at),
+        stream::record::CLOSE => close(state, tables, staging, slots, body, text, at),
+        PACKAGE => package(state, staging, echo, body, text, at),
         _ => {
-            print_packet(text, at, body);
+            answers::packets::print_packet(text, at, body);
             state
         }
     }

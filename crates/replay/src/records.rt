@@ -3,9 +3,9 @@ ghost use mathlib.Core.Bool.{true};
 ghost use mathlib.Core.Path.{_≡_};
 ghost use Prim.Native.Nat.{_<_};
 ghost use lib.ListN.{getD};
-ghost use Rattle.stream.specs.Input.{Held, waitingIn};
+ghost use Rattle.buffered.specs.Input.{Held, waitingIn};
 ghost use Rattle.replay.specs.Record.{isCounted, FirstOf};
-use stream::input::Input;
+use buffered::input::Input;
 use stream::record::Next;
 use stream::record::whole;
 
@@ -31,7 +31,7 @@ fn counted(buffer: &mut [u8], input: Input, kind: u8, text: &[u8], at: &mut usiz
     requires { ⌜ (input .at < input .end) × (getD (now buffer) (input .at) 0 ≡ kind) ⌝ }
     ensures { λ r. ⌜ FirstOf r (waitingIn input (now (buffer .entry))) (now (buffer .exit)) ⌝ }
 {
-    let three = stream::input::fill(buffer, input, COUNTED, text, at);
+    let three = buffered::input::fill(buffer, input, COUNTED, text, at);
     let start = three.at;
     if three.end - start < COUNTED {
         return Next::Bad;
@@ -45,7 +45,7 @@ pub fn next(buffer: &mut [u8], input: Input, text: &[u8], at: &mut usize) -> Nex
     requires { ⌜ Held input (now buffer) ⌝ }
     ensures { λ r. ⌜ FirstOf r (waitingIn input (now (buffer .entry))) (now (buffer .exit)) ⌝ }
 {
-    let one = stream::input::fill(buffer, input, 1, text, at);
+    let one = buffered::input::fill(buffer, input, 1, text, at);
     let start = one.at;
     if one.end == start {
         return Next::End;

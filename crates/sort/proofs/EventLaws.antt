@@ -13,14 +13,13 @@ use Rattle.sort.specs.declared.columns.Column.{Column}
 use Rattle.sort.specs.declared.columns.Column.the-variants.{Inside, Outside}
 use Rattle.sort.specs.declared.event.Event.{Event}
 use Rattle.sort.specs.declared.sorting.Outcome.{Outcome}
-use Rattle.sort.specs.declared.sorting.Outcome.the-variants.{Discarded, OutOfBounds, InCell}
+use Rattle.sort.specs.declared.sorting.Outcome.the-variants.{Discarded}
 use Rattle.sort.specs.declared.sorting.Words.{Words}
 use Rattle.sort.specs.Columns.{uOf, massColumn, energyColumn, bounded}
 use Rattle.sort.specs.Event.{inRange, gainOf, channelOf}
 use Rattle.sort.specs.Matrix.{boxUsed, beaconUsed, matrixOf, cellOf}
 use Rattle.sort.specs.Sorting.{discards, eventWords, located, inMatrix, outcomeOf}
-use Rattle.sort.specs.Counts.{CellNames, OutcomeNames}
-use Rattle.sort.specs.Samples.{boxOf}
+use Rattle.sort.specs.Boxes.{CellNames, OutcomeNames}
 
 -- the fields of an event in range
 pub in-range : (e : Event) → inRange e ≡ true → (e .t ≤ 511) × (e .high ≤ 4095) × (e .low ≤ 2047)
@@ -80,14 +79,3 @@ or-discarded false o h = h
 pub outcome-names : (s : Settings) (tables : List ℕ) (e : Event) → OutcomeNames (outcomeOf s tables e)
 unfolding outcomeOf
 outcome-names s tables e = or-discarded (discards s e) _ (in-matrix-names (gainOf e) (eventWords tables e) (matrixOf tables))
-
--- an outcome's box is from 5 to 116
-pub box-from : (o : Outcome) → OutcomeNames o → 5 ≤ boxOf o
-box-from Discarded h = omega arith
-box-from (OutOfBounds gain) h = omega arith
-box-from (InCell gain cell) h = omega (arith, h)
-
-pub box-fits : (o : Outcome) → OutcomeNames o → boxOf o ≤ 116
-box-fits Discarded h = omega arith
-box-fits (OutOfBounds gain) h = omega arith
-box-fits (InCell gain cell) h = h .1

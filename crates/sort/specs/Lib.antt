@@ -2,5 +2,4 @@ pub mod Event
 pub mod Columns
 pub mod Matrix
 pub mod Sorting
-pub mod Counts
-pub mod Samples
+pub mod Boxes

@@ -8,6 +8,3 @@ pub const OUT_OF_BOUNDS_BOX: u8 = 6;
 
 // Rule 5: a cell that names no box from 7 on.
 pub const JUNK_BOX: u8 = 7;
-
-// The first box whose events are eligible without junk.
-pub const FIRST_ELIGIBLE_BOX: u8 = 8;

@@ -6,12 +6,12 @@ ghost use lib.ListN.{length};
 ghost use mathlib.Core.Bool.{true};
 ghost use Rattle.sort.specs.Event.{inRange};
 ghost use Rattle.tables.specs.Tables.{tableBytes};
+use counts::Counts;
 use libc::STDOUT_FILENO;
 use sample_record::Sample;
+use samples::slots::SlotUse;
 use settings::Settings;
-use sort::counts::Counts;
 use sort::event::Event;
-use sort::slots::SlotUse;
 
 // Each event: t, high, low, flags (FLG0 1, FLG1 2, error 4, valid stop 8), settings (Eonly 1, toferror 2, junk 4).
 const EVENTS: [u16; 80] = [
@@ -196,15 +196,15 @@ fn show_sorted(s: Settings, tables: &[u8], e: Event)
     requires { ⌜ inRange e ≡ true ⌝ }
 {
     let o = sort::sorting::outcome_of(s, tables, e);
-    let word = sort::samples::record_of(e, o);
+    let word = samples::record_of(e, o);
     let none = Counts {
         boxes: [0u32; 116],
         beacons: [0u32; 12],
     };
-    let c = sort::counts::counted(none, o);
-    number(sort::samples::box_of(o) as u64);
-    flag(sort::samples::priority_of(o));
-    flag(sort::samples::eligible(s.junk, o));
+    let c = counts::counted(none, o);
+    number(samples::box_of(o) as u64);
+    flag(samples::priority_of(o));
+    flag(samples::eligible(s.junk, o));
     space();
     io::print_hex(STDOUT_FILENO, word as u64, 8);
     io::write_all(STDOUT_FILENO, b" boxes");
@@ -281,7 +281,7 @@ fn place_all(slots: &mut [u32], limhi: usize)
     };
     let mut i: u32 = 0;
     while i < 710 {
-        kept = sort::slots::place(slots, kept, limhi, i + 1, i % 2 == 0);
+        kept = samples::slots::place(slots, kept, limhi, i + 1, i % 2 == 0);
         i += 1;
     }
     number(kept.used as u64);

@@ -6,8 +6,8 @@ use lib.Dec.{leb}
 use Rattle.wire.specs.Bytes.{zeros}
 use Rattle.wire.specs.Lists.{all, atMost}
 use Rattle.settings.specs.Settings.{slotCount}
-use Rattle.sort.specs.declared.counts.Counts.{Counts}
-use Rattle.sort.specs.declared.slots.SlotUse.{SlotUse}
+use Rattle.counts.specs.declared.Counts.{Counts}
+use Rattle.samples.specs.declared.slots.SlotUse.{SlotUse}
 use Rattle.state.specs.declared.interval.Interval.{Interval}
 
 -- "An interval takes up to 1,000,000 events and 60 second readings"

@@ -2,8 +2,8 @@
 ghost use mathlib.Core.Path.{_≡_};
 ghost use Rattle.wire.specs.Lists.{all, atMost};
 ghost use Rattle.state.specs.Interval.{noCounts, freshInterval, countsWithin, slotsWithin, readingsWithin, intervalWithin};
-use sort::counts::Counts;
-use sort::slots::SlotUse;
+use counts::Counts;
+use samples::slots::SlotUse;
 
 pub struct Interval {
     // Events taken.

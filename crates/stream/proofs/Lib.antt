@@ -1,3 +1,2 @@
--- Laws of input and records, which the programs' proofs cite too.
-pub mod InputLaws
+-- Laws of records, which the programs' proofs cite too.
 pub mod RecordLaws

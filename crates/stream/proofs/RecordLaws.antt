@@ -3,11 +3,11 @@ use mathlib.Core.Path.{ap}
 use mathlib.Core.List.{List}
 use Prim.Native.Nat.{ℕ}
 use lib.ListN.{length}
-use Rattle.stream.specs.Input.{waitingIn, Begins}
+use Rattle.buffered.specs.Input.{waitingIn, Begins}
 use Rattle.stream.specs.Record.{FoundIn}
 use Rattle.stream.specs.declared.record.Next.{Next}
 use Rattle.stream.specs.declared.record.Next.the-variants.{End, Bad, Record}
-use Rattle.stream.proofs.InputLaws.{begins-then, begins-none}
+use Rattle.buffered.proofs.InputLaws.{begins-then, begins-none}
 
 -- what is found where more bytes wait is found where the first of them waited
 pub found-then : (r : Next) (a b buffer : List ℕ) → Begins a b → FoundIn r b buffer → FoundIn r a buffer

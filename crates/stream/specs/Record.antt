@@ -12,7 +12,7 @@ use Rattle.state.specs.declared.State.{State}
 use Rattle.causes.specs.Causes.{fieldRange}
 use Rattle.processor.specs.Answer.{answer}
 use Rattle.processor.specs.Event.{EventDone, eventDone}
-use Rattle.stream.specs.Input.{Held, waitingIn, Begins}
+use Rattle.buffered.specs.Input.{Held, waitingIn, Begins}
 use Rattle.stream.specs.declared.record.Next.{Next}
 use Rattle.stream.specs.declared.record.Next.the-variants.{End, Bad, Record}
 

@@ -1,7 +1,2 @@
-// What the programs share: reads and writes, buffered input and text, the file of tables, and the records that both read.
-pub mod files;
-pub mod input;
+// The records that both programs read, and where a program stands after one.
 pub mod record;
-pub mod text;
-pub mod transfer;
-pub mod turns;

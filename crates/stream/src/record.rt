@@ -4,9 +4,9 @@ ghost use mathlib.Core.Path.{_≡_};
 ghost use Prim.Native.Nat.{_+_, _≤_, _<_};
 ghost use lib.ListN.{length, getD};
 ghost use Rattle.processor.specs.Reading.{readingDone};
-ghost use Rattle.stream.specs.Input.{Held, waitingIn, inputBytes};
+ghost use Rattle.buffered.specs.Input.{Held, waitingIn, inputBytes};
 ghost use Rattle.stream.specs.Record.{LongAs, FoundIn, IsOf, eventIn, recordDone, countsIn};
-use crate::input::Input;
+use buffered::input::Input;
 use processor::Answer;
 use sort::event::Event;
 use state::State;
@@ -50,7 +50,7 @@ pub fn going_on(state: State, input: Input) -> Step
 pub fn stopped(state: State) -> Step
     ensures { λ r. ⌜ (r .state ≡ state) × (r .input .at ≤ 0) × (r .input .end ≤ 0) × (r .more ≡ false) ⌝ }
 {
-    let input = crate::input::none();
+    let input = buffered::input::none();
     Step {
         state,
         input: input,
@@ -62,7 +62,7 @@ pub fn stopped(state: State) -> Step
 pub fn bad(state: State, text: &mut [u8], at: &mut usize) -> Step
     ensures { λ r. ⌜ (r .state ≡ state) × (r .input .at ≤ 0) × (r .input .end ≤ 0) × (r .more ≡ false) ⌝ }
 {
-    crate::text::bad_record(text, at);
+    buffered::text::bad_record(text, at);
     stopped(state)
 }
 
@@ -110,7 +110,7 @@ pub fn whole(
     ensures { λ r. ⌜ FoundIn r (waitingIn input (now (buffer .entry))) (now (buffer .exit)) ⌝ }
     ensures { λ r. ⌜ IsOf kind head n r ⌝ }
 {
-    let filled = crate::input::fill(buffer, input, head + n, text, at);
+    let filled = buffered::input::fill(buffer, input, head + n, text, at);
     let start = filled.at;
     let end = filled.end;
     if end - start < head + n {

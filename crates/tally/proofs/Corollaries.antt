@@ -19,20 +19,20 @@ use Rattle.tables.specs.Tables.{tableBytes}
 use Rattle.sample_record.specs.Record.{recordBox, recordGood}
 use Rattle.sort.specs.declared.event.Event.{Event}
 use Rattle.sort.specs.Event.{inRange}
-use Rattle.sort.specs.Samples.{boxOf, sampled, slotsOf}
-use Rattle.sort.proofs.EventLaws.{outcome-names, box-fits}
-use Rattle.sort.proofs.RecordLaws.{event-box}
-use Rattle.sort.proofs.SampleLaws.{length-sampled}
+use Rattle.sort.proofs.EventLaws.{outcome-names}
+use Rattle.samples.specs.Samples.{boxOf, sampled, slotsOf}
+use Rattle.samples.proofs.RecordLaws.{box-fits, event-box}
+use Rattle.samples.proofs.SampleLaws.{length-sampled}
 use Rattle.load.specs.Staging.{stagingBytes, formed, fits, receivedSum, computedSum}
 use Rattle.load.proofs.StagingLaws.{addresses-are, length-staging-after}
-use Rattle.command.specs.Echo.{echoBytes}
+use Rattle.echo.specs.Echo.{echoBytes}
 use Rattle.orders.specs.Orders.{givenAt}
 use Rattle.orders.proofs.OrderLaws.{waiting-with}
 use Rattle.orders.proofs.RunLaws.{length-tables-after-all}
 use Rattle.state.specs.Interval.{mostEvents}
 use Rattle.state.proofs.LimitLaws.{state-limits}
 use Rattle.processor.specs.Package.{isStaged}
-use Rattle.processor.specs.Close.{outBytes, packetsOf}
+use Rattle.output.specs.Output.{outBytes, packetsOf}
 use Rattle.tally.specs.Calls.{Lent, own, Call, event, reading, line, load, close}
 use Rattle.tally.specs.Calls.{answered, closed, World, freshWorld, reply, after, Lawful}
 use Rattle.tally.specs.Events.{sorted, isEligible, priority, recordFor, eligiblesBy, slotsBy}

@@ -8,7 +8,7 @@ use lib.ListN.{length}
 use Rattle.wire.proofs.Lists.{choice}
 use Rattle.wire.proofs.Pieces.{length-table}
 use Rattle.state.specs.Interval.{noCounts}
-use Rattle.processor.proofs.OutputLaws.{slots-sent}
+use Rattle.output.proofs.OutputLaws.{slots-sent}
 use Rattle.tally.specs.Calls.{Call, event, reading, line, load, close, closed}
 use Rattle.tally.specs.Events.{countsBy}
 use Rattle.tally.specs.Tally.{Tally, countsOf, ownSlots, totalsBy, totalsOf, frameOf, numberFor, closedReply, treply}

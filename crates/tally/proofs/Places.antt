@@ -11,8 +11,8 @@ use lib.Seq.{append-snoc, getD-append-seam}
 use Rattle.wire.specs.Lists.{joinIf, keep}
 use Rattle.settings.specs.Settings.{slotCount}
 use Rattle.wire.specs.Pieces.{padded}
-use Rattle.sort.specs.Samples.{replacedBy, sampled, slotsOf}
-use Rattle.sort.proofs.SampleLaws.{map-append, length-sampled, sampled-is, replaced-is}
+use Rattle.samples.specs.Samples.{replacedBy, sampled, slotsOf}
+use Rattle.samples.proofs.SampleLaws.{map-append, length-sampled, sampled-is, replaced-is}
 use Rattle.settings.specs.declared.Settings.{Settings}
 use Rattle.sort.specs.declared.event.Event.{Event}
 use Rattle.tally.specs.Events.{isEligible, priority, recordFor, eligiblesBy, slotsBy}

@@ -11,10 +11,10 @@ use Rattle.wire.proofs.Lists.{and-left, and-right, decide}
 use Rattle.settings.specs.declared.Settings.{Settings}
 use Rattle.settings.specs.Settings.{slotCount}
 use Rattle.sort.specs.declared.event.Event.{Event}
-use Rattle.sort.specs.Samples.{sampled, slotsOf, filled}
 use Rattle.sort.proofs.EventLaws.{outcome-names}
-use Rattle.sort.proofs.RecordLaws.{event-nonzero}
-use Rattle.sort.proofs.SampleLaws.{length-sampled, filled-padded}
+use Rattle.samples.specs.Samples.{sampled, slotsOf, filled}
+use Rattle.samples.proofs.RecordLaws.{event-nonzero}
+use Rattle.samples.proofs.SampleLaws.{length-sampled, filled-padded}
 use Rattle.processor.specs.Event.{eventDone}
 use Rattle.processor.specs.Reading.{readingDone}
 use Rattle.processor.specs.Line.{lineDone}

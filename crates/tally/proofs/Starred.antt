@@ -2,7 +2,7 @@
 use mathlib.Core.Path.{_≡_, refl}
 use mathlib.Core.List.{map}
 use Rattle.sort.specs.Columns.{massColumn}
-use Rattle.packet.specs.Rate.{rateCode, shift, leastFrom}
+use Rattle.rate_code.specs.Rate.{rateCode, shift, leastFrom}
 use Rattle.tally.specs.Cases.{computed, wanted, starredCases}
 
 pub starred : map computed starredCases ≡ map wanted starredCases

@@ -13,9 +13,9 @@ use Rattle.wire.proofs.Pieces.{table-at, same-table, table-zeros}
 use Rattle.settings.specs.declared.Settings.{Settings}
 use Rattle.settings.specs.Settings.{slotCount}
 use Rattle.sort.specs.declared.event.Event.{Event}
-use Rattle.sort.specs.declared.slots.SlotUse.{SlotUse}
-use Rattle.sort.specs.Samples.{Place, none, placeOf, slotsAfter, useAfter, slotsOf, useOf}
-use Rattle.sort.proofs.SampleLaws.{place-agrees, replaced-few, sampled-few}
+use Rattle.samples.specs.declared.slots.SlotUse.{SlotUse}
+use Rattle.samples.specs.Samples.{Place, none, placeOf, slotsAfter, useAfter, slotsOf, useOf}
+use Rattle.samples.proofs.SampleLaws.{place-agrees, replaced-few, sampled-few}
 use Rattle.command.specs.declared.command.Line.{Line}
 use Rattle.command.specs.declared.command.Line.the-variants.{Empty, Wrong, Waits, LoadZero, LoadAt}
 use Rattle.orders.specs.Orders.{freshOrders, ordersWith}

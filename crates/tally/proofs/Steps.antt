@@ -11,7 +11,7 @@ use Rattle.causes.specs.Checks.{numberBy}
 use Rattle.causes.proofs.CheckLaws.{passed-first}
 use Rattle.wire.proofs.Lists.{and-left, and-right, decide}
 use Rattle.sort.specs.declared.event.Event.{Event}
-use Rattle.command.specs.Echo.{echoBytes}
+use Rattle.echo.specs.Echo.{echoBytes}
 use Rattle.command.specs.Grammar.{bytesOk}
 use Rattle.orders.specs.Run.{tablesAfterAll}
 use Rattle.orders.proofs.OrderLaws.{waiting-with}

@@ -8,8 +8,8 @@ use lib.ListN.{length}
 use Rattle.wire.specs.Bytes.{zeros}
 use Rattle.wire.specs.Lists.{EachBelow}
 use Rattle.settings.specs.Settings.{slotCount}
-use Rattle.sort.specs.declared.counts.Counts.{Counts}
 use Rattle.sort.specs.declared.event.Event.{Event}
+use Rattle.counts.specs.declared.Counts.{Counts}
 use Rattle.state.specs.declared.State.{State}
 use Rattle.state.specs.State.{freshState}
 use Rattle.processor.specs.declared.Answer.{Answer}

@@ -3,7 +3,7 @@ use mathlib.Core.List.{List, _++_, map}
 use Prim.Native.Nat.{ℕ}
 use lib.IntN.{ℤ, pos}
 use Rattle.sort.specs.Columns.{massColumn, columnCases}
-use Rattle.packet.specs.Rate.{rateCode, codeCases}
+use Rattle.rate_code.specs.Rate.{rateCode, codeCases}
 
 -- a value of u with its column f_m, or a count with its rate code
 pub data Case : Type 0 where

@@ -10,13 +10,13 @@ use Rattle.causes.specs.Causes.{carriedOut}
 use Rattle.wire.specs.Bits.{bitOf}
 use Rattle.wire.specs.Bytes.{words, total}
 use Rattle.settings.specs.Settings.{slotCount}
-use Rattle.sort.specs.declared.counts.Counts.{Counts}
 use Rattle.sort.specs.declared.event.Event.{Event}
+use Rattle.counts.specs.declared.Counts.{Counts}
 use Rattle.wire.specs.Pieces.{padded}
-use Rattle.sort.specs.Samples.{filled}
+use Rattle.samples.specs.Samples.{filled}
 use Rattle.packet.specs.Packet.{packetBytes}
 use Rattle.state.specs.Limits.{withinLimits}
-use Rattle.processor.specs.Close.{samplePackets}
+use Rattle.output.specs.Output.{samplePackets}
 use Rattle.tally.specs.Calls.{Lent, own, other, Call, event, reading, line, load, close, Reply, answered, echoed}
 use Rattle.tally.specs.Calls.{closed, numberOf, World, freshWorld, eventIn, loadIn, closeIn, next, reply, replies, after, Lawful}
 use Rattle.tally.specs.Events.{isEligible, recordFor}

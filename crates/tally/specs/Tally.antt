@@ -14,14 +14,14 @@ use Rattle.settings.specs.declared.Settings.{Settings}
 use Rattle.settings.specs.Settings.{slotCount, freshSettings}
 use Rattle.tables.specs.Tables.{tableBytes}
 use Rattle.sample_record.specs.Record.{recordGood}
-use Rattle.sort.specs.declared.counts.Counts.{Counts}
 use Rattle.sort.specs.declared.event.Event.{Event}
 use Rattle.sort.specs.Event.{inRange}
+use Rattle.counts.specs.declared.Counts.{Counts}
 use Rattle.load.specs.declared.staging.Addresses.{Addresses}
 use Rattle.load.specs.Staging.{stagingBytes, packageChecks, stagingAfter, addressesAfter, freshAddresses}
 use Rattle.command.specs.declared.command.Line.{Line}
 use Rattle.command.specs.declared.command.Line.the-variants.{Empty, Wrong, Waits, LoadZero, LoadAt}
-use Rattle.command.specs.Echo.{echoBytes, refusedEcho}
+use Rattle.echo.specs.Echo.{echoBytes, refusedEcho}
 use Rattle.command.specs.Grammar.{bytesOk, lineOf}
 use Rattle.orders.specs.declared.Waiting.{Waiting}
 use Rattle.orders.specs.Orders.{mostCommands, loadsIn}
@@ -29,7 +29,7 @@ use Rattle.orders.specs.Run.{settingsAfterAll, tablesAfterAll, addressesAfterAl
 use Rattle.state.specs.Interval.{mostEvents, mostReadings, noCounts}
 use Rattle.processor.specs.Line.{commandChecks, addressesTold, toldEcho, echoBy}
 use Rattle.processor.specs.Package.{isStaged, stagedEcho}
-use Rattle.processor.specs.Close.{outBytes, packetsOf}
+use Rattle.output.specs.Output.{outBytes, packetsOf}
 use Rattle.tally.specs.Calls.{Lent, found, Call, event, reading, line, load, close, Reply, answered, echoed, closed}
 use Rattle.tally.specs.Events.{countsBy, eligiblesBy, slotsBy}
 

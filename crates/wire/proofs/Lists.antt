@@ -7,10 +7,11 @@ use Prim.Native.Nat.{ℕ, zero, suc, _+_, _-_, _≤_, _<_, min, suc-le-suc}
 use native.Mathlib.Nat.{le-refl, le-trans, le-suc}
 use native.Mathlib.Numerals.{add-one}
 use native.Mathlib.Omega.{arith}
-use lib.ListN.{length, take, drop, getD, set, replicate, length-take, drop-of-length-le}
+use lib.ListN.{length, take, drop, getD, set, replicate, length-take, drop-of-length-le, List·getD-eq-default}
 use lib.Seq.{drop-cons, drop-at, getD-set-same, getD-set-other, length-take-le, set-out, take-add, take-all, take-take}
-use borrow.Author.Tests.{leb-true, leb-false, le-leb}
-use lib.Dec.{leb}
+use lib.Seq.{getD-take, getD-drop}
+use borrow.Author.Tests.{leb-true, leb-false, le-leb, ltb-true, ltb-false}
+use lib.Dec.{leb, ltb}
 use native.Mathlib.Decide.{ℕ-discrete, decLt}
 use Rattle.wire.specs.Lists.{all, atMost, EachBelow, bump, joinIf, keep}
 
@@ -185,3 +186,22 @@ choice P false x y f g = g refl
 pub decide : {G : Type 0} (b : Bool) → (b ≡ true → G) → (b ≡ false → G) → G
 decide true f g = f refl
 decide false f g = g refl
+
+-- ---- a part of a list
+
+-- what holds of each number of a list holds of each of a part
+pub each-part : (n : ℕ) (xs : List ℕ) (b m : ℕ) → 0 < n → EachBelow n xs → EachBelow n (take m (drop b xs))
+each-part n xs b m z h k =
+    decide (ltb k m)
+    (λ q. let l : k < m = ltb-true k m q in rw (getD-take m (drop b xs) k 0 l, getD-drop b xs k 0) (h (b + k)))
+    (λ q.
+    let l : length (take m (drop b xs)) ≤ k = omega (arith, ltb-false k m q, length-take m (drop b xs)) in
+    rw (List·getD-eq-default (take m (drop b xs)) 0 l) z)
+
+pub all-part : {A : Type 0} (p : A → Bool) (xs : List A) (b m : ℕ) → all p xs ≡ true → all p (take m (drop b xs)) ≡ true
+all-part p xs zero zero h = refl
+all-part p [] zero (suc m) h = refl
+all-part p (x ∷ xs) zero (suc m) h = rw (and-left (p x) (all p xs) h) (all-part p xs zero m (and-right (p x) (all p xs) h))
+all-part p [] (suc b) zero h = refl
+all-part p [] (suc b) (suc m) h = refl
+all-part p (x ∷ xs) (suc b) m h = all-part p xs b m (and-right (p x) (all p xs) h)

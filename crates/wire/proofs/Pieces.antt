@@ -1,5 +1,5 @@
 -- Laws of lists made of numbered or equal pieces, or filled up to a length. Assumes nothing.
-use mathlib.Core.Path.{_≡_, refl, sym, ap, _∙_}
+use mathlib.Core.Path.{_≡_, refl, sym, ap, ap₂, _∙_}
 use mathlib.Core.Bool.{Bool, true, _&&_}
 use mathlib.Core.List.{List, [], _∷_, _++_, append-assoc, append-nil}
 use Prim.Native.Nat.{ℕ, zero, suc, _+_, _-_, _*_, _≤_, _<_}
@@ -61,6 +61,12 @@ pub words-runs : (ws : List ℕ) → words ws ≡ runs be32 ws
 unfolding words runs
 words-runs [] = refl
 words-runs (w ∷ ws) = ap (λ (l : List ℕ). be32 w ++ l) (words-runs ws)
+
+-- the words of two lists
+pub words-append : (xs ys : List ℕ) → words xs ++ words ys ≡ words (xs ++ ys)
+words-append xs ys =
+    ap₂ (λ (a b : List ℕ). a ++ b) (words-runs xs) (words-runs ys)
+    ∙ sym (words-runs (xs ++ ys) ∙ runs-append be32 xs ys)
 
 -- ---- tables
 

@@ -4,9 +4,9 @@ use mathlib.Core.Path.{_≡_, sym, ap, _∙_}
 use mathlib.Core.List.{List}
 use Prim.Native.Nat.{ℕ}
 use denote.Ref.{now}
-use Rattle.packet.specs.declared.kind.Kind.{Kind}
-use Rattle.packet.specs.Read.{applicationOf, kindOf, readNumber}
-use Rattle.packet.proofs.Reading.{accepted-length, accepted-body, accepted-rate, accepted-beacon}
+use Rattle.decode.specs.declared.kind.Kind.{Kind}
+use Rattle.decode.specs.Read.{applicationOf, kindOf, readNumber}
+use Rattle.decode.proofs.Reading.{accepted-length, accepted-body, accepted-rate, accepted-beacon}
 use Rattle.ground.specs.Ground.{refused, contents, readOf}
 use Rattle.ground.proofs.Answers.{read-accepted, read-refused}
 use Rattle.ground.proofs.read.Statement.{statement}
@@ -22,12 +22,6 @@ kind-is : (c : tie.After-kind-of) (k : Kind) → c .kind-of .result ≡ k
     → kindOf (applicationOf (bytes (c .before .before .before))) ≡ k
 kind-is c k e = sym (c .kind-of .ensures ∙ ap kindOf (c .before .application .ensures)) ∙ e
 
-number-requires : tie.Need-number-requires
-number-requires c κs = search needs
-
-refused-requires : tie.Need-refused-requires
-refused-requires c κs = search needs
-
 returns : tie.Need-returns
 returns c =
     let t = c .before in
@@ -37,40 +31,22 @@ returns c =
 application-requires : tie.Need-application-requires
 application-requires c κs = accepted-length _ (is-zero c)
 
-kind-of-requires : tie.Need-kind-of-requires
-kind-of-requires c κs = search needs
-
-enum-told : tie.Need-enum-told
-enum-told c = search needs
-
 rate-packet-requires : tie.Need-rate-packet-requires
 rate-packet-requires c κs =
     let k = c .before .before in
     let z = is-zero (k .before .before) in
     (accepted-length _ z, accepted-rate _ (accepted-body _ _ z (kind-is k _ (c .enum-told .given .1))))
 
-enum-told-2 : tie.Need-enum-told-2
-enum-told-2 c = search needs
-
 sample-packet-requires : tie.Need-sample-packet-requires
 sample-packet-requires c κs =
     let k = c .before .before .before .before in
     accepted-length _ (is-zero k)
-
-enum-told-3 : tie.Need-enum-told-3
-enum-told-3 c = search needs
 
 beacon-packet-requires : tie.Need-beacon-packet-requires
 beacon-packet-requires c κs =
     let k = c .before .before in
     let z = is-zero (k .before .before) in
     (accepted-length _ z, accepted-beacon _ (accepted-body _ _ z (kind-is k _ (c .enum-told3 .given .1))))
-
-enum-told-4 : tie.Need-enum-told-4
-enum-told-4 c = search needs
-
-refused-requires-2 : tie.Need-refused-requires-2
-refused-requires-2 c κs = search needs
 
 -- each arm answers what its kind holds
 arm : (c : tie.After-kind-of) (k : Kind) → c .kind-of .result ≡ k
@@ -94,19 +70,19 @@ pub read-spec : {M : Type 1} → statement M
 read-spec =
     tie.close
     (tie.spec
-    number-requires
-    refused-requires
+    (λ c κs. search needs)
+    (λ c κs. search needs)
     returns
     application-requires
-    kind-of-requires
-    enum-told
+    (λ c κs. search needs)
+    (λ c. search needs)
     rate-packet-requires
-    enum-told-2
+    (λ c. search needs)
     sample-packet-requires
-    enum-told-3
+    (λ c. search needs)
     beacon-packet-requires
-    enum-told-4
-    refused-requires-2
+    (λ c. search needs)
+    (λ c κs. search needs)
     returns-2
     returns-3
     returns-4

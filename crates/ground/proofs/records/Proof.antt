@@ -7,20 +7,8 @@ use Rattle.ground.specs.Ground.{recordsOf}
 use Rattle.ground.proofs.records.Statement.{statement}
 use Rattle.ground.proofs.records.Tie as tie
 
-samples-in-requires : tie.Need-samples-in-requires
-samples-in-requires c κs = search needs
-
-sub-result : tie.Need-sub-result
-sub-result c = search needs
-
-part-result-start : tie.Need-part-result-start
-part-result-start c = search needs
-
 part-result-end : tie.Need-part-result-end
 part-result-end c = omega (arith, samples-length _ (sym (c .before .samples-in .ensures) ∙ c .if1 .taken))
-
-slice-aggregate-result : tie.Need-slice-aggregate-result
-slice-aggregate-result c = search needs
 
 returns : tie.Need-returns
 unfolding recordsOf
@@ -34,10 +22,10 @@ pub records-spec : {M : Type 1} → statement M
 records-spec =
     tie.close
     (tie.spec
-    samples-in-requires
-    sub-result
-    part-result-start
+    (λ c κs. search needs)
+    (λ c. search needs)
+    (λ c. search needs)
     part-result-end
-    slice-aggregate-result
+    (λ c. search needs)
     returns
     returns-2)

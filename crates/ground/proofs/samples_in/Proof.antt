@@ -3,8 +3,8 @@ use borrow.Author.Needs.{needs}
 use mathlib.Core.Path.{_≡_, sym, ap, _∙_}
 use borrow.Author.Tests.{eq-eqb, ne-eqb}
 use denote.Ref.{now}
-use Rattle.packet.specs.Read.{kindOf, readNumber}
-use Rattle.packet.proofs.Reading.{accepted-length}
+use Rattle.decode.specs.Read.{kindOf, readNumber}
+use Rattle.decode.proofs.Reading.{accepted-length}
 use Rattle.ground.specs.Ground.{isSample, samplesIn}
 use Rattle.ground.proofs.samples_in.Statement.{statement}
 use Rattle.ground.proofs.samples_in.Tie as tie
@@ -12,17 +12,8 @@ use Rattle.ground.proofs.samples_in.Tie as tie
 is-zero : (c : tie.Then1) → readNumber (now (c .before .before .before .args .packet)) ≡ 0
 is-zero c = sym (c .before .number .ensures) ∙ c .if1 .taken
 
-number-requires : tie.Need-number-requires
-number-requires c κs = search needs
-
 application-requires : tie.Need-application-requires
 application-requires c κs = accepted-length _ (is-zero c)
-
-kind-of-requires : tie.Need-kind-of-requires
-kind-of-requires c κs = search needs
-
-is-sample-requires : tie.Need-is-sample-requires
-is-sample-requires c κs = search needs
 
 returns : tie.Need-returns
 unfolding samplesIn
@@ -39,9 +30,9 @@ pub samples-in-spec : {M : Type 1} → statement M
 samples-in-spec =
     tie.close
     (tie.spec
-    number-requires
+    (λ c κs. search needs)
     application-requires
-    kind-of-requires
-    is-sample-requires
+    (λ c κs. search needs)
+    (λ c κs. search needs)
     returns
     returns-2)

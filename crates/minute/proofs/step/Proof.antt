@@ -31,35 +31,11 @@ stepped : (c : tie.Start) {x y : Next} (r : Step) (tables slots : List ℕ) → 
     → let a = c .args in Stepped x (a .state) (now (a .tables)) (now (a .staging)) (now (a .slots)) (now (a .buffer)) r tables slots
 stepped c r tables slots e h = rw e h
 
-enum-told : tie.Need-enum-told
-enum-told c = search needs
-
-stopped-requires : tie.Need-stopped-requires
-stopped-requires c κs = search needs
-
-enum-told-2 : tie.Need-enum-told-2
-enum-told-2 c = search needs
-
-bad-requires : tie.Need-bad-requires
-bad-requires c κs = search needs
-
-enum-known-found : tie.Need-enum-known-found
-enum-known-found c = search needs
-
 events-requires : tie.Need-events-requires
 events-requires c κs =
     let f = c .before .before .before .before .before .before in
     let l = lies f in
     omega (arith, l .0, l .1, l .2)
-
-same-length : tie.Need-same-length
-same-length c = search needs
-
-same-length-2 : tie.Need-same-length-2
-same-length-2 c = search needs
-
-same-length-3 : tie.Need-same-length-3
-same-length-3 c = search needs
 
 returns : tie.Need-returns
 returns c =
@@ -88,12 +64,6 @@ carry-out-requires c κs =
     let f = b .before .before .before in
     subst (LongAs (f .found .given .0 .0)) (b .body .given .1) (lies f .3 .0)
 
-print-refusal-requires : tie.Need-print-refusal-requires
-print-refusal-requires c κs = search needs
-
-going-on-requires : tie.Need-going-on-requires
-going-on-requires c κs = search needs
-
 returns-2 : tie.Need-returns-2
 returns-2 c =
     let t = c .before in
@@ -102,9 +72,6 @@ returns-2 c =
       omega (arith, e .1, e .2),
       stepped a (c .stopped .result) (now (a .args .tables)) (now (a .args .slots)) (t .enum-told .given .1) (e .0, refl, refl, e .3),
     )
-
-same-length-4 : tie.Need-same-length-4
-same-length-4 c = search needs
 
 returns-3 : tie.Need-returns-3
 returns-3 c =
@@ -115,12 +82,6 @@ returns-3 c =
       omega (arith, e .1, e .2),
       stepped a (x .bad .result) (now (a .args .tables)) (now (a .args .slots)) (t .enum-told2 .given .1) (e .0, refl, refl, e .3),
     )
-
-same-length-5 : tie.Need-same-length-5
-same-length-5 c = search needs
-
-same-length-6 : tie.Need-same-length-6
-same-length-6 c = search needs
 
 same-length-7 : tie.Need-same-length-7
 same-length-7 c =
@@ -148,26 +109,26 @@ pub step-spec : {M : Type 1} → statement M
 step-spec =
     tie.close
     (tie.spec
-    enum-told
-    stopped-requires
-    enum-told-2
-    bad-requires
-    enum-known-found
+    (λ c. search needs)
+    (λ c κs. search needs)
+    (λ c. search needs)
+    (λ c κs. search needs)
+    (λ c. search needs)
     events-requires
-    same-length
-    same-length-2
-    same-length-3
+    (λ c. search needs)
+    (λ c. search needs)
+    (λ c. search needs)
     returns
     sub-body
     part-body-start
     part-body-end
     carry-out-requires
-    print-refusal-requires
-    going-on-requires
+    (λ c κs. search needs)
+    (λ c κs. search needs)
     returns-2
-    same-length-4
+    (λ c. search needs)
     returns-3
-    same-length-5
-    same-length-6
+    (λ c. search needs)
+    (λ c. search needs)
     same-length-7
     returns-4)

@@ -19,26 +19,8 @@ Inv-loop reach n waiting ok₀ i₀ ok i =
 abbrev μ-loop : tie.MeasureT-loop
 μ-loop reach n waiting ok₀ i₀ ok i = n - i
 
-in-use-requires : tie.Need-in-use-requires Inv-loop μ-loop
-in-use-requires c κs = search needs
-
 loop-holds : tie.Need-loop-holds Inv-loop μ-loop
 loop-holds c = (omega arith, refl)
-
-mul-x : tie.Need-mul-x Inv-loop μ-loop
-mul-x c = search needs
-
-array-copy-out-x : tie.Need-array-copy-out-x Inv-loop μ-loop
-array-copy-out-x c = search needs
-
-command-ok-requires : tie.Need-command-ok-requires Inv-loop μ-loop
-command-ok-requires c κs = search needs
-
-add-i : tie.Need-add-i Inv-loop μ-loop
-add-i c = search needs
-
-loop-less : tie.Need-loop-less Inv-loop μ-loop
-loop-less c = search needs
 
 loop-again : tie.Need-loop-again Inv-loop μ-loop
 loop-again c =
@@ -70,12 +52,12 @@ given-spec =
     (tie.spec
     Inv-loop
     μ-loop
-    in-use-requires
+    (λ c κs. search needs)
     loop-holds
-    mul-x
-    array-copy-out-x
-    command-ok-requires
-    add-i
-    loop-less
+    (λ c. search needs)
+    (λ c. search needs)
+    (λ c κs. search needs)
+    (λ c. search needs)
+    (λ c. search needs)
     loop-again
     returns)

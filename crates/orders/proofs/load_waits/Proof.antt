@@ -3,11 +3,8 @@ use borrow.Author.Needs.{needs}
 use Rattle.orders.proofs.load_waits.Statement.{statement}
 use Rattle.orders.proofs.load_waits.Tie as tie
 
-loads-requires : tie.Need-loads-requires
-loads-requires c κs = search needs
-
 returns : tie.Need-returns
 returns c = simp (c .loads .ensures)
 
 pub load-waits-spec : {M : Type 1} → statement M
-load-waits-spec = tie.close (tie.spec loads-requires returns)
+load-waits-spec = tie.close (tie.spec (λ c κs. search needs) returns)

@@ -19,29 +19,8 @@ Inv-loop n waiting count₀ i₀ count i = (i ≤ n) × (count ≤ i) × (count 
 abbrev μ-loop : tie.MeasureT-loop
 μ-loop n waiting count₀ i₀ count i = n - i
 
-in-use-requires : tie.Need-in-use-requires Inv-loop μ-loop
-in-use-requires c κs = search needs
-
 loop-holds : tie.Need-loop-holds Inv-loop μ-loop
 loop-holds c = (omega arith, omega arith, omega arith)
-
-mul-x : tie.Need-mul-x Inv-loop μ-loop
-mul-x c = search needs
-
-array-copy-out-x : tie.Need-array-copy-out-x Inv-loop μ-loop
-array-copy-out-x c = search needs
-
-is-load-requires : tie.Need-is-load-requires Inv-loop μ-loop
-is-load-requires c κs = search needs
-
-add-count : tie.Need-add-count Inv-loop μ-loop
-add-count c = search needs
-
-add-i : tie.Need-add-i Inv-loop μ-loop
-add-i c = search needs
-
-loop-less : tie.Need-loop-less Inv-loop μ-loop
-loop-less c = search needs
 
 loop-again : tie.Need-loop-again Inv-loop μ-loop
 unfolding loadsIn
@@ -78,13 +57,13 @@ loads-spec =
     (tie.spec
     Inv-loop
     μ-loop
-    in-use-requires
+    (λ c κs. search needs)
     loop-holds
-    mul-x
-    array-copy-out-x
-    is-load-requires
-    add-count
-    add-i
-    loop-less
+    (λ c. search needs)
+    (λ c. search needs)
+    (λ c κs. search needs)
+    (λ c. search needs)
+    (λ c. search needs)
+    (λ c. search needs)
     loop-again
     returns)

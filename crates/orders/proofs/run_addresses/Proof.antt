@@ -4,12 +4,6 @@ use borrow.Author.Needs.{needs}
 use Rattle.orders.proofs.run_addresses.Statement.{statement}
 use Rattle.orders.proofs.run_addresses.Tie as tie
 
-load-waits-requires : tie.Need-load-waits-requires
-load-waits-requires c κs = search needs
-
-fresh-addresses-requires : tie.Need-fresh-addresses-requires
-fresh-addresses-requires c κs = search needs
-
 returns : tie.Need-returns
 returns c = simp (c .fresh-addresses .ensures, sym (c .before .before .load-waits .ensures) ∙ c .before .if1 .taken)
 
@@ -18,4 +12,4 @@ returns-2 c = simp (sym (c .before .load-waits .ensures) ∙ c .if1 .left)
 
 pub run-addresses-spec : {M : Type 1} → statement M
 run-addresses-spec =
-    tie.close (tie.spec load-waits-requires fresh-addresses-requires returns returns-2)
+    tie.close (tie.spec (λ c κs. search needs) (λ c κs. search needs) returns returns-2)

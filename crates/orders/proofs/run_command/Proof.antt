@@ -8,23 +8,11 @@ use borrow.Author.Needs.{needs}
 use Rattle.orders.proofs.run_command.Statement.{statement}
 use Rattle.orders.proofs.run_command.Tie as tie
 
-enum-told : tie.Need-enum-told
-enum-told c = search needs
-
-enum-known-c : tie.Need-enum-known-c
-enum-known-c c = search needs
-
 run-load-requires : tie.Need-run-load-requires
 run-load-requires c κs =
     let k = c .before .before in
     let s = k .before .before .before .before in
     (s .pre .0, sym (ap (λ (x : Command). commandOk x (s .args .reach)) (k .c .given .1)) ∙ s .pre .1)
-
-returns : tie.Need-returns
-returns c = search needs
-
-same-length : tie.Need-same-length
-same-length c = search needs
 
 returns-2 : tie.Need-returns-2
 returns-2 c =
@@ -35,4 +23,4 @@ returns-2 c =
 
 pub run-command-spec : {M : Type 1} → statement M
 run-command-spec =
-    tie.close (tie.spec enum-told enum-known-c run-load-requires returns same-length returns-2)
+    tie.close (tie.spec (λ c. search needs) (λ c. search needs) run-load-requires (λ c. search needs) (λ c. search needs) returns-2)

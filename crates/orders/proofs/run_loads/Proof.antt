@@ -24,17 +24,8 @@ Inv-loop tables₀ staging reach n waiting i₀ tables i =
 abbrev μ-loop : tie.MeasureT-loop
 μ-loop tables₀ staging reach n waiting i₀ tables i = n - i
 
-in-use-requires : tie.Need-in-use-requires Inv-loop μ-loop
-in-use-requires c κs = search needs
-
 loop-holds : tie.Need-loop-holds Inv-loop μ-loop
 loop-holds c = (omega arith, refl, refl)
-
-mul-x : tie.Need-mul-x Inv-loop μ-loop
-mul-x c = search needs
-
-array-copy-out-x : tie.Need-array-copy-out-x Inv-loop μ-loop
-array-copy-out-x c = search needs
 
 run-command-requires : tie.Need-run-command-requires Inv-loop μ-loop
 run-command-requires c κs =
@@ -48,12 +39,6 @@ run-command-requires c κs =
     let k : length (take n w) ≡ n = u .in-use .ensures .1 in
     let e = rw (sym (u .in-use .ensures .2)) at (orders-are (s .args .o) (s .args .reach) (s .pre .1) .given) in
     (search needs, ap g (sym (getD-take n w i filler (omega arith))) ∙ all-get g (take n w) filler i (omega arith) e)
-
-add-i : tie.Need-add-i Inv-loop μ-loop
-add-i c = search needs
-
-loop-less : tie.Need-loop-less Inv-loop μ-loop
-loop-less c = search needs
 
 loop-again : tie.Need-loop-again Inv-loop μ-loop
 loop-again c =
@@ -75,9 +60,6 @@ loop-again c =
           ∙ l .loop .inv .2,
     )
 
-same-length : tie.Need-same-length Inv-loop μ-loop
-same-length c = search needs
-
 returns : tie.Need-returns Inv-loop μ-loop
 returns c =
     let l = c .before in
@@ -94,13 +76,13 @@ run-loads-spec =
     (tie.spec
     Inv-loop
     μ-loop
-    in-use-requires
+    (λ c κs. search needs)
     loop-holds
-    mul-x
-    array-copy-out-x
+    (λ c. search needs)
+    (λ c. search needs)
     run-command-requires
-    add-i
-    loop-less
+    (λ c. search needs)
+    (λ c. search needs)
     loop-again
-    same-length
+    (λ c. search needs)
     returns)

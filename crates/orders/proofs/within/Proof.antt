@@ -23,12 +23,6 @@ returns-3 c =
     let a = c .before .before .before .before in
     simp (le-leb _ _ (a .if1 .left), lt-leb _ _ (c .if3 .taken))
 
-given-requires : tie.Need-given-requires
-given-requires c κs = search needs
-
-loads-requires : tie.Need-loads-requires
-loads-requires c κs = search needs
-
 returns-4 : tie.Need-returns-4
 unfolding ordersWithin
 returns-4 c =
@@ -39,4 +33,4 @@ returns-4 c =
 
 pub within-spec : {M : Type 1} → statement M
 within-spec =
-    tie.close (tie.spec returns returns-2 returns-3 given-requires loads-requires returns-4)
+    tie.close (tie.spec returns returns-2 returns-3 (λ c κs. search needs) (λ c κs. search needs) returns-4)

@@ -34,21 +34,6 @@ stepped : (c : tie.Start) {x y : Next} (r : Step) (tables staging slots echo : L
     → Makes c y r tables staging slots echo → Makes c x r tables staging slots echo
 stepped c r tables staging slots echo e h = rw e h
 
-enum-told : tie.Need-enum-told
-enum-told c = search needs
-
-stopped-requires : tie.Need-stopped-requires
-stopped-requires c κs = search needs
-
-enum-told-2 : tie.Need-enum-told-2
-enum-told-2 c = search needs
-
-bad-requires : tie.Need-bad-requires
-bad-requires c κs = search needs
-
-enum-known-found : tie.Need-enum-known-found
-enum-known-found c = search needs
-
 sub-body : tie.Need-sub-body
 sub-body c = lies (c .before) .0
 
@@ -64,9 +49,6 @@ carry-out-requires c κs =
     let f = b .before .before in
     subst (LongAs (f .found .given .0 .0)) (b .body .given .1) (lies f .2)
 
-going-on-requires : tie.Need-going-on-requires
-going-on-requires c κs = search needs
-
 returns : tie.Need-returns
 returns c =
     let t = c .before in
@@ -77,9 +59,6 @@ returns c =
       stepped s (c .stopped .result) (now (a .tables)) (now (a .staging)) (now (a .slots)) (now (a .echo)) (t .enum-told .given .1)
           (e .0, refl, refl, refl, refl, e .3),
     )
-
-same-length : tie.Need-same-length
-same-length c = search needs
 
 returns-2 : tie.Need-returns-2
 returns-2 c =
@@ -93,21 +72,6 @@ returns-2 c =
           (e .0, refl, refl, refl, refl, e .3),
     )
 
-same-length-2 : tie.Need-same-length-2
-same-length-2 c = search needs
-
-same-length-3 : tie.Need-same-length-3
-same-length-3 c = search needs
-
-same-length-4 : tie.Need-same-length-4
-same-length-4 c = search needs
-
-same-length-5 : tie.Need-same-length-5
-same-length-5 c = search needs
-
-same-length-6 : tie.Need-same-length-6
-same-length-6 c = search needs
-
 returns-3 : tie.Need-returns-3
 returns-3 c =
     let x = c .before .before .before .before .before .before .before .before .before .before .before in
@@ -118,29 +82,29 @@ returns-3 c =
       omega (arith, g .1, g .2, lies f .1),
       stepped (begun f) (c .going-on .result) (last .1 .1 .0) (last .1 .1 .1 .0) (last .1 .1 .1 .1 .0) (last .1 .1 .1 .1 .1 .0)
           (f .found .given .1)
-          (g .0 ∙ e .0, e .1 .0, e .1 .1 .0, e .1 .1 .1 .0, e .1 .1 .1 .1, g .1, g .2, g .3),
+          ((g .0 ∙ e .0, e .1, e .2, e .3, e .4), g .1, g .2, g .3),
     )
 
 pub step-spec : {M : Type 1} → statement M
 step-spec =
     tie.close
     (tie.spec
-    enum-told
-    stopped-requires
-    enum-told-2
-    bad-requires
-    enum-known-found
+    (λ c. search needs)
+    (λ c κs. search needs)
+    (λ c. search needs)
+    (λ c κs. search needs)
+    (λ c. search needs)
     sub-body
     part-body-start
     part-body-end
     carry-out-requires
-    going-on-requires
+    (λ c κs. search needs)
     returns
-    same-length
+    (λ c. search needs)
     returns-2
-    same-length-2
-    same-length-3
-    same-length-4
-    same-length-5
-    same-length-6
+    (λ c. search needs)
+    (λ c. search needs)
+    (λ c. search needs)
+    (λ c. search needs)
+    (λ c. search needs)
     returns-3)

@@ -7,13 +7,10 @@ use borrow.Author.Needs.{needs}
 use Rattle.sample_record.proofs.append.Statement.{statement}
 use Rattle.sample_record.proofs.append.Tie as tie
 
-shl-result : tie.Need-shl-result
-shl-result c = search needs
-
 returns : tie.Need-returns
 returns c =
     let a = c .args in
     ap (λ (n : ℕ). bitOr n (a .field)) (mod-eq-of-lt (c .pre .1)) ∙ or-shifted (a .x) (a .bits) (a .field) (c .pre .2)
 
 pub append-spec : {M : Type 1} → statement M
-append-spec = tie.close (tie.spec shl-result returns)
+append-spec = tie.close (tie.spec (λ c. search needs) returns)

@@ -7,12 +7,6 @@ use borrow.Author.Needs.{needs}
 use Rattle.sample_record.proofs.field.Statement.{statement}
 use Rattle.sample_record.proofs.field.Tie as tie
 
-shr-result : tie.Need-shr-result
-shr-result c = search needs
-
-shl-result : tie.Need-shl-result
-shl-result c = search needs
-
 sub-result : tie.Need-sub-result
 sub-result c = rw (mask (c .args .bits) (c .pre .1)) (pow-pos (c .args .bits))
 
@@ -22,4 +16,4 @@ returns c =
     rw (mask (a .bits) (c .pre .1)) (and-mask (a .x / 2 ^ a .shift) (a .bits))
 
 pub field-spec : {M : Type 1} → statement M
-field-spec = tie.close (tie.spec shr-result shl-result sub-result returns)
+field-spec = tie.close (tie.spec (λ c. search needs) (λ c. search needs) sub-result returns)

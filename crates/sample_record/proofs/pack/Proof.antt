@@ -4,51 +4,6 @@ use borrow.Author.Needs.{needs}
 use Rattle.sample_record.proofs.pack.Statement.{statement}
 use Rattle.sample_record.proofs.pack.Tie as tie
 
-cast-append : tie.Need-cast-append
-cast-append c = search needs
-
-cast-append-2 : tie.Need-cast-append-2
-cast-append-2 c = search needs
-
-append-requires : tie.Need-append-requires
-append-requires c κs = search needs
-
-flag-bit-requires : tie.Need-flag-bit-requires
-flag-bit-requires c κs = search needs
-
-append-requires-2 : tie.Need-append-requires-2
-append-requires-2 c κs = search needs
-
-flag-bit-requires-2 : tie.Need-flag-bit-requires-2
-flag-bit-requires-2 c κs = search needs
-
-append-requires-3 : tie.Need-append-requires-3
-append-requires-3 c κs = search needs
-
-flag-bit-requires-3 : tie.Need-flag-bit-requires-3
-flag-bit-requires-3 c κs = search needs
-
-append-requires-4 : tie.Need-append-requires-4
-append-requires-4 c κs = search needs
-
-flag-bit-requires-4 : tie.Need-flag-bit-requires-4
-flag-bit-requires-4 c κs = search needs
-
-append-requires-5 : tie.Need-append-requires-5
-append-requires-5 c κs = search needs
-
-cast-append-3 : tie.Need-cast-append-3
-cast-append-3 c = search needs
-
-append-requires-6 : tie.Need-append-requires-6
-append-requires-6 c κs = search needs
-
-flag-bit-requires-5 : tie.Need-flag-bit-requires-5
-flag-bit-requires-5 c κs = search needs
-
-append-requires-7 : tie.Need-append-requires-7
-append-requires-7 c κs = search needs
-
 returns : tie.Need-returns
 unfolding recordOf
 returns c =
@@ -77,19 +32,19 @@ pub pack-spec : {M : Type 1} → statement M
 pack-spec =
     tie.close
     (tie.spec
-    cast-append
-    cast-append-2
-    append-requires
-    flag-bit-requires
-    append-requires-2
-    flag-bit-requires-2
-    append-requires-3
-    flag-bit-requires-3
-    append-requires-4
-    flag-bit-requires-4
-    append-requires-5
-    cast-append-3
-    append-requires-6
-    flag-bit-requires-5
-    append-requires-7
+    (λ c. search needs)
+    (λ c. search needs)
+    (λ c κs. search needs)
+    (λ c κs. search needs)
+    (λ c κs. search needs)
+    (λ c κs. search needs)
+    (λ c κs. search needs)
+    (λ c κs. search needs)
+    (λ c κs. search needs)
+    (λ c κs. search needs)
+    (λ c κs. search needs)
+    (λ c. search needs)
+    (λ c κs. search needs)
+    (λ c κs. search needs)
+    (λ c κs. search needs)
     returns)

@@ -12,32 +12,8 @@ Inv-loop slots i₀ i = i ≤ length slots
 abbrev μ-loop : tie.MeasureT-loop
 μ-loop slots i₀ i = length slots - i
 
-loop-holds : tie.Need-loop-holds Inv-loop μ-loop
-loop-holds c = search needs
-
-mul-number : tie.Need-mul-number Inv-loop μ-loop
-mul-number c = search needs
-
-shared-slice-read-number : tie.Need-shared-slice-read-number Inv-loop μ-loop
-shared-slice-read-number c = search needs
-
 cast-number : tie.Need-cast-number Inv-loop μ-loop
 cast-number c = omega (arith, c .shared-slice-known2 .given (c .before .before .loop .i))
-
-number-requires : tie.Need-number-requires Inv-loop μ-loop
-number-requires c κs = search needs
-
-add-i : tie.Need-add-i Inv-loop μ-loop
-add-i c = search needs
-
-loop-less : tie.Need-loop-less Inv-loop μ-loop
-loop-less c = search needs
-
-loop-again : tie.Need-loop-again Inv-loop μ-loop
-loop-again c = search needs
-
-returns : tie.Need-returns Inv-loop μ-loop
-returns c = search needs
 
 pub show-slots-spec : {M : Type 1} → statement M
 show-slots-spec =
@@ -45,12 +21,12 @@ show-slots-spec =
     (tie.spec
     Inv-loop
     μ-loop
-    loop-holds
-    mul-number
-    shared-slice-read-number
+    (λ c. search needs)
+    (λ c. search needs)
+    (λ c. search needs)
     cast-number
-    number-requires
-    add-i
-    loop-less
-    loop-again
-    returns)
+    (λ c κs. search needs)
+    (λ c. search needs)
+    (λ c. search needs)
+    (λ c. search needs)
+    (λ c. search needs))

@@ -11,27 +11,6 @@ of-told : (s : tie.Start) {k : Setting} → s .args .k ≡ k
     → changed (s .args .s) k (s .args .n) ≡ changed (s .args .s) (s .args .k) (s .args .n)
 of-told s e = sym (ap (λ (k : Setting). changed (s .args .s) k (s .args .n)) e)
 
-enum-told : tie.Need-enum-told
-enum-told c = search needs
-
-enum-told-2 : tie.Need-enum-told-2
-enum-told-2 c = search needs
-
-enum-told-3 : tie.Need-enum-told-3
-enum-told-3 c = search needs
-
-enum-told-4 : tie.Need-enum-told-4
-enum-told-4 c = search needs
-
-enum-told-5 : tie.Need-enum-told-5
-enum-told-5 c = search needs
-
-enum-told-6 : tie.Need-enum-told-6
-enum-told-6 c = search needs
-
-cast-t : tie.Need-cast-t
-cast-t c = search needs
-
 returns : tie.Need-returns
 returns c = of-told (c .before .before) (c .enum-told .given .1)
 
@@ -54,13 +33,13 @@ pub changed-spec : {M : Type 1} → statement M
 changed-spec =
     tie.close
     (tie.spec
-    enum-told
-    enum-told-2
-    enum-told-3
-    enum-told-4
-    enum-told-5
-    enum-told-6
-    cast-t
+    (λ c. search needs)
+    (λ c. search needs)
+    (λ c. search needs)
+    (λ c. search needs)
+    (λ c. search needs)
+    (λ c. search needs)
+    (λ c. search needs)
     returns
     returns-2
     returns-3

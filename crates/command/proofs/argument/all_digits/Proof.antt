@@ -18,26 +18,11 @@ Inv-loop w i₀ i = (i ≤ length w) × (all isDigit w ≡ all isDigit (drop i w
 abbrev μ-loop : tie.MeasureT-loop
 μ-loop w i₀ i = length w - i
 
-loop-holds : tie.Need-loop-holds Inv-loop μ-loop
-loop-holds c = search needs
-
-shared-slice-read-is-digit : tie.Need-shared-slice-read-is-digit Inv-loop μ-loop
-shared-slice-read-is-digit c = search needs
-
-is-digit-requires : tie.Need-is-digit-requires Inv-loop μ-loop
-is-digit-requires c κs = search needs
-
 returns : tie.Need-returns Inv-loop μ-loop
 returns c =
     let l = c .before .before .before .before in
     let e = sym (c .before .is-digit .ensures) ∙ not-true _ (c .if1 .taken) in
     sym (all-stop isDigit (now (l .before .before .args .w)) 0 (l .loop .i) (omega arith) e (l .loop .inv .1))
-
-add-i : tie.Need-add-i Inv-loop μ-loop
-add-i c = search needs
-
-loop-less : tie.Need-loop-less Inv-loop μ-loop
-loop-less c = search needs
 
 loop-again : tie.Need-loop-again Inv-loop μ-loop
 loop-again c =
@@ -56,11 +41,11 @@ all-digits-spec =
     (tie.spec
     Inv-loop
     μ-loop
-    loop-holds
-    shared-slice-read-is-digit
-    is-digit-requires
+    (λ c. search needs)
+    (λ c. search needs)
+    (λ c κs. search needs)
     returns
-    add-i
-    loop-less
+    (λ c. search needs)
+    (λ c. search needs)
     loop-again
     returns-2)

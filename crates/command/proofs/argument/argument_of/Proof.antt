@@ -15,9 +15,6 @@ returns-2 : tie.Need-returns-2
 unfolding argumentOf
 returns-2 c = simp (le-leb _ _ (c .before .if1 .left), lt-leb _ _ (c .if2 .taken))
 
-all-digits-requires : tie.Need-all-digits-requires
-all-digits-requires c κs = search needs
-
 returns-3 : tie.Need-returns-3
 unfolding argumentOf
 returns-3 c =
@@ -37,4 +34,4 @@ returns-4 c =
 
 pub argument-of-spec : {M : Type 1} → statement M
 argument-of-spec =
-    tie.close (tie.spec returns returns-2 all-digits-requires returns-3 value-requires returns-4)
+    tie.close (tie.spec returns returns-2 (λ c κs. search needs) returns-3 value-requires returns-4)

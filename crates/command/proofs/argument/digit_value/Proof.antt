@@ -9,20 +9,11 @@ use Rattle.command.proofs.argument.digit_value.Tie as tie
 sub-result : tie.Need-sub-result
 sub-result c = digit-low _ (c .before .pre)
 
-cast-result : tie.Need-cast-result
-cast-result c = search needs
-
 returns : tie.Need-returns
 returns c = (simp (le-leb _ _ (c .if1 .taken)), omega arith)
 
 sub-result-2 : tie.Need-sub-result-2
 sub-result-2 c = omega (arith, digit-high (c .before .args .b) (c .before .pre) (c .if1 .left))
-
-add-result : tie.Need-add-result
-add-result c = search needs
-
-cast-result-2 : tie.Need-cast-result-2
-cast-result-2 c = search needs
 
 returns-2 : tie.Need-returns-2
 returns-2 c = (simp (lt-leb _ _ (c .if1 .left)), omega (arith, digit-high (c .before .args .b) (c .before .pre) (c .if1 .left)))
@@ -30,4 +21,4 @@ returns-2 c = (simp (lt-leb _ _ (c .if1 .left)), omega (arith, digit-high (c .be
 pub digit-value-spec : {M : Type 1} → statement M
 digit-value-spec =
     tie.close
-    (tie.spec sub-result cast-result returns sub-result-2 add-result cast-result-2 returns-2)
+    (tie.spec sub-result (λ c. search needs) returns sub-result-2 (λ c. search needs) (λ c. search needs) returns-2)

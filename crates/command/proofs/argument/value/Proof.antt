@@ -23,9 +23,6 @@ loop-holds c = (omega arith, omega arith, refl)
 mul-n : tie.Need-mul-n Inv-loop μ-loop
 mul-n c = omega (arith, hex-room (c .before .loop .n) 0 (c .before .loop .i) (omega arith) (omega arith) (omega arith))
 
-shared-slice-read-digit-value : tie.Need-shared-slice-read-digit-value Inv-loop μ-loop
-shared-slice-read-digit-value c = search needs
-
 digit-value-requires : tie.Need-digit-value-requires Inv-loop μ-loop
 digit-value-requires c κs =
     let l = c .before .before in
@@ -36,12 +33,6 @@ add-n : tie.Need-add-n Inv-loop μ-loop
 add-n c =
     let l = c .before .before .before in
     omega (arith, hex-room (l .loop .n) (c .digit-value .result) (l .loop .i) (omega arith) (omega arith) (omega arith))
-
-add-i : tie.Need-add-i Inv-loop μ-loop
-add-i c = search needs
-
-loop-less : tie.Need-loop-less Inv-loop μ-loop
-loop-less c = search needs
 
 loop-again : tie.Need-loop-again Inv-loop μ-loop
 loop-again c =
@@ -70,10 +61,10 @@ value-spec =
     μ-loop
     loop-holds
     mul-n
-    shared-slice-read-digit-value
+    (λ c. search needs)
     digit-value-requires
     add-n
-    add-i
-    loop-less
+    (λ c. search needs)
+    (λ c. search needs)
     loop-again
     returns)

@@ -10,18 +10,6 @@ use Rattle.command.proofs.command.command_ok.Tie as tie
 of-told : (s : tie.Start) {x : Command} → s .args .c ≡ x → commandOk x (s .args .reach) ≡ commandOk (s .args .c) (s .args .reach)
 of-told s e = sym (ap (λ (x : Command). commandOk x (s .args .reach)) e)
 
-enum-known-c : tie.Need-enum-known-c
-enum-known-c c = search needs
-
-most-of-requires : tie.Need-most-of-requires
-most-of-requires c κs = search needs
-
-enum-known-c-2 : tie.Need-enum-known-c-2
-enum-known-c-2 c = search needs
-
-load-lawful-requires : tie.Need-load-lawful-requires
-load-lawful-requires c κs = search needs
-
 returns : tie.Need-returns
 returns c = let k = c .before .before in rw (c .most-of .ensures) (of-told (k .before .before) (k .c .given .1))
 
@@ -31,4 +19,4 @@ returns-2 c = let k = c .before .before in c .load-lawful .ensures ∙ of-told (
 pub command-ok-spec : {M : Type 1} → statement M
 command-ok-spec =
     tie.close
-    (tie.spec enum-known-c most-of-requires enum-known-c-2 load-lawful-requires returns returns-2)
+    (tie.spec (λ c. search needs) (λ c κs. search needs) (λ c. search needs) (λ c κs. search needs) returns returns-2)

@@ -10,21 +10,9 @@ use borrow.Author.Needs.{needs}
 use Rattle.command.proofs.keyword.load_line.Statement.{statement}
 use Rattle.command.proofs.keyword.load_line.Tie as tie
 
-cast-if1 : tie.Need-cast-if1
-cast-if1 c = search needs
-
 returns : tie.Need-returns
 unfolding rightIf loadLawful
 returns c = simp (lt-leb _ _ (c .if1 .taken))
-
-cast-how : tie.Need-cast-how
-cast-how c = search needs
-
-load-lawful-requires : tie.Need-load-lawful-requires
-load-lawful-requires c κs = search needs
-
-right-if-requires : tie.Need-right-if-requires
-right-if-requires c κs = search needs
 
 returns-2 : tie.Need-returns-2
 returns-2 c =
@@ -32,4 +20,4 @@ returns-2 c =
     c .right-if .ensures ∙ ap (λ (ok : Bool). rightIf ok (Waits (Load (a .a) (a .y)))) (c .before .load-lawful .ensures)
 
 pub load-line-spec : {M : Type 1} → statement M
-load-line-spec = tie.close (tie.spec cast-if1 returns cast-how load-lawful-requires right-if-requires returns-2)
+load-line-spec = tie.close (tie.spec (λ c. search needs) returns (λ c. search needs) (λ c κs. search needs) (λ c κs. search needs) returns-2)

@@ -7,15 +7,6 @@ use borrow.Author.Needs.{needs}
 use Rattle.command.proofs.keyword.one_argument.Statement.{statement}
 use Rattle.command.proofs.keyword.one_argument.Tie as tie
 
-enum-known-n : tie.Need-enum-known-n
-enum-known-n c = search needs
-
-with-one-requires : tie.Need-with-one-requires
-with-one-requires c κs = search needs
-
-enum-told : tie.Need-enum-told
-enum-told c = search needs
-
 returns : tie.Need-returns
 unfolding oneArgument
 returns c =
@@ -30,4 +21,4 @@ returns-2 c =
     sym (ap (λ (x : Argument). oneArgument (now (s .args .keyword)) x (s .args .reach)) (c .enum-told .given .1))
 
 pub one-argument-spec : {M : Type 1} → statement M
-one-argument-spec = tie.close (tie.spec enum-known-n with-one-requires enum-told returns returns-2)
+one-argument-spec = tie.close (tie.spec (λ c. search needs) (λ c κs. search needs) (λ c. search needs) returns returns-2)

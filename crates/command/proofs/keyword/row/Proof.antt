@@ -4,9 +4,6 @@ use borrow.Author.Needs.{needs}
 use Rattle.command.proofs.keyword.row.Statement.{statement}
 use Rattle.command.proofs.keyword.row.Tie as tie
 
-same-requires : tie.Need-same-requires
-same-requires c κs = search needs
-
 returns : tie.Need-returns
 returns c = rw (sym (c .before .same .ensures) ∙ c .if1 .taken)
 
@@ -14,4 +11,4 @@ returns-2 : tie.Need-returns-2
 returns-2 c = rw (sym (c .before .same .ensures) ∙ c .if1 .left)
 
 pub row-spec : {M : Type 1} → statement M
-row-spec = tie.close (tie.spec same-requires returns returns-2)
+row-spec = tie.close (tie.spec (λ c κs. search needs) returns returns-2)

@@ -5,15 +5,6 @@ use borrow.Author.Needs.{needs}
 use Rattle.command.proofs.keyword.set_line.Statement.{statement}
 use Rattle.command.proofs.keyword.set_line.Tie as tie
 
-most-of-requires : tie.Need-most-of-requires
-most-of-requires c κs = search needs
-
-cast-if1 : tie.Need-cast-if1
-cast-if1 c = search needs
-
-cast-t7 : tie.Need-cast-t7
-cast-t7 c = search needs
-
 returns : tie.Need-returns
 unfolding rightIf
 returns c = let e = c .before .most-of .ensures in simp (le-leb _ _ (rw e at (c .if1 .taken)))
@@ -23,4 +14,4 @@ unfolding rightIf
 returns-2 c = let e = c .before .most-of .ensures in simp (lt-leb _ _ (rw e at (c .if1 .left)))
 
 pub set-line-spec : {M : Type 1} → statement M
-set-line-spec = tie.close (tie.spec most-of-requires cast-if1 cast-t7 returns returns-2)
+set-line-spec = tie.close (tie.spec (λ c κs. search needs) (λ c. search needs) (λ c. search needs) returns returns-2)

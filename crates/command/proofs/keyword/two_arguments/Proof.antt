@@ -7,21 +7,6 @@ use borrow.Author.Needs.{needs}
 use Rattle.command.proofs.keyword.two_arguments.Statement.{statement}
 use Rattle.command.proofs.keyword.two_arguments.Tie as tie
 
-enum-known-n : tie.Need-enum-known-n
-enum-known-n c = search needs
-
-enum-known-m : tie.Need-enum-known-m
-enum-known-m c = search needs
-
-with-two-requires : tie.Need-with-two-requires
-with-two-requires c κs = search needs
-
-enum-told : tie.Need-enum-told
-enum-told c = search needs
-
-enum-told-2 : tie.Need-enum-told-2
-enum-told-2 c = search needs
-
 returns : tie.Need-returns
 unfolding twoArguments
 returns c =
@@ -46,11 +31,11 @@ pub two-arguments-spec : {M : Type 1} → statement M
 two-arguments-spec =
     tie.close
     (tie.spec
-    enum-known-n
-    enum-known-m
-    with-two-requires
-    enum-told
-    enum-told-2
+    (λ c. search needs)
+    (λ c. search needs)
+    (λ c κs. search needs)
+    (λ c. search needs)
+    (λ c. search needs)
     returns
     returns-2
     returns-3)

@@ -18,26 +18,11 @@ Inv-loop line i₀ i = (i ≤ length line) × (all printable line ≡ all printa
 abbrev μ-loop : tie.MeasureT-loop
 μ-loop line i₀ i = length line - i
 
-loop-holds : tie.Need-loop-holds Inv-loop μ-loop
-loop-holds c = search needs
-
-shared-slice-read-is-printable : tie.Need-shared-slice-read-is-printable Inv-loop μ-loop
-shared-slice-read-is-printable c = search needs
-
-is-printable-requires : tie.Need-is-printable-requires Inv-loop μ-loop
-is-printable-requires c κs = search needs
-
 returns : tie.Need-returns Inv-loop μ-loop
 returns c =
     let l = c .before .before .before .before in
     let e = sym (c .before .is-printable .ensures) ∙ not-true _ (c .if1 .taken) in
     sym (all-stop printable (now (l .before .before .args .line)) 0 (l .loop .i) (omega arith) e (l .loop .inv .1))
-
-add-i : tie.Need-add-i Inv-loop μ-loop
-add-i c = search needs
-
-loop-less : tie.Need-loop-less Inv-loop μ-loop
-loop-less c = search needs
 
 loop-again : tie.Need-loop-again Inv-loop μ-loop
 loop-again c =
@@ -56,11 +41,11 @@ all-printable-spec =
     (tie.spec
     Inv-loop
     μ-loop
-    loop-holds
-    shared-slice-read-is-printable
-    is-printable-requires
+    (λ c. search needs)
+    (λ c. search needs)
+    (λ c κs. search needs)
     returns
-    add-i
-    loop-less
+    (λ c. search needs)
+    (λ c. search needs)
     loop-again
     returns-2)

@@ -7,11 +7,8 @@ use Rattle.command.proofs.line.bytes_ok.Tie as tie
 returns : tie.Need-returns
 returns c = rw (lt-leb _ _ (c .if1 .taken))
 
-all-printable-requires : tie.Need-all-printable-requires
-all-printable-requires c κs = search needs
-
 returns-2 : tie.Need-returns-2
 returns-2 c = rw (le-leb _ _ (c .before .if1 .left)) (c .all-printable .ensures)
 
 pub bytes-ok-spec : {M : Type 1} → statement M
-bytes-ok-spec = tie.close (tie.spec returns all-printable-requires returns-2)
+bytes-ok-spec = tie.close (tie.spec returns (λ c κs. search needs) returns-2)

@@ -19,9 +19,6 @@ returns : tie.Need-returns
 unfolding lineOf
 returns c = rw (eq-eqb _ _ (c .if1 .taken))
 
-word-length-requires : tie.Need-word-length-requires
-word-length-requires c κs = search needs
-
 returns-2 : tie.Need-returns-2
 returns-2 c =
     let w = c .before in
@@ -30,27 +27,6 @@ returns-2 c =
 
 slice-aggregate-keyword : tie.Need-slice-aggregate-keyword
 slice-aggregate-keyword c = sym (length-take-le _ _ (omega arith))
-
-add-rest : tie.Need-add-rest
-add-rest c = search needs
-
-sub-rest : tie.Need-sub-rest
-sub-rest c = search needs
-
-part-rest-start : tie.Need-part-rest-start
-part-rest-start c = search needs
-
-part-rest-end : tie.Need-part-rest-end
-part-rest-end c = search needs
-
-word-length-requires-2 : tie.Need-word-length-requires-2
-word-length-requires-2 c κs = search needs
-
-argument-of-requires : tie.Need-argument-of-requires
-argument-of-requires c κs = search needs
-
-one-argument-requires : tie.Need-one-argument-requires
-one-argument-requires c κs = search needs
 
 returns-3 : tie.Need-returns-3
 returns-3 c =
@@ -71,27 +47,6 @@ returns-3 c =
 
 slice-aggregate-argument-of : tie.Need-slice-aggregate-argument-of
 slice-aggregate-argument-of c = sym (length-take-le _ _ (omega arith))
-
-argument-of-requires-2 : tie.Need-argument-of-requires-2
-argument-of-requires-2 c κs = search needs
-
-add-argument-of : tie.Need-add-argument-of
-add-argument-of c = search needs
-
-sub-argument-of : tie.Need-sub-argument-of
-sub-argument-of c = search needs
-
-part-argument-of-start : tie.Need-part-argument-of-start
-part-argument-of-start c = search needs
-
-part-argument-of-end : tie.Need-part-argument-of-end
-part-argument-of-end c = search needs
-
-argument-of-requires-3 : tie.Need-argument-of-requires-3
-argument-of-requires-3 c κs = search needs
-
-two-arguments-requires : tie.Need-two-arguments-requires
-two-arguments-requires c κs = search needs
 
 returns-4 : tie.Need-returns-4
 returns-4 c =
@@ -120,23 +75,23 @@ parse-spec =
     tie.close
     (tie.spec
     returns
-    word-length-requires
+    (λ c κs. search needs)
     returns-2
     slice-aggregate-keyword
-    add-rest
-    sub-rest
-    part-rest-start
-    part-rest-end
-    word-length-requires-2
-    argument-of-requires
-    one-argument-requires
+    (λ c. search needs)
+    (λ c. search needs)
+    (λ c. search needs)
+    (λ c. search needs)
+    (λ c κs. search needs)
+    (λ c κs. search needs)
+    (λ c κs. search needs)
     returns-3
     slice-aggregate-argument-of
-    argument-of-requires-2
-    add-argument-of
-    sub-argument-of
-    part-argument-of-start
-    part-argument-of-end
-    argument-of-requires-3
-    two-arguments-requires
+    (λ c κs. search needs)
+    (λ c. search needs)
+    (λ c. search needs)
+    (λ c. search needs)
+    (λ c. search needs)
+    (λ c κs. search needs)
+    (λ c κs. search needs)
     returns-4)

@@ -4,18 +4,6 @@ use Rattle.ground.specs.Ground.{accepted}
 use Rattle.ground.proofs.contents.accepted.Statement.{statement}
 use Rattle.ground.proofs.contents.accepted.Tie as tie
 
-application-requires : tie.Need-application-requires
-application-requires c κs = search needs
-
-sequence-requires : tie.Need-sequence-requires
-sequence-requires c κs = search needs
-
-u32-at-requires : tie.Need-u32-at-requires
-u32-at-requires c κs = search needs
-
-u16-at-requires : tie.Need-u16-at-requires
-u16-at-requires c κs = search needs
-
 returns : tie.Need-returns
 unfolding accepted
 returns c =
@@ -25,4 +13,4 @@ returns c =
 pub accepted-spec : {M : Type 1} → statement M
 accepted-spec =
     tie.close
-    (tie.spec application-requires sequence-requires u32-at-requires u16-at-requires returns)
+    (tie.spec (λ c κs. search needs) (λ c κs. search needs) (λ c κs. search needs) (λ c κs. search needs) returns)

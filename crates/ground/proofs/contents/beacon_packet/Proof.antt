@@ -1,22 +1,13 @@
 -- `beacon_packet` reads the codes, valid ones in an accepted packet, and leaves all else zero.
 use borrow.Author.Needs.{needs}
 use native.Mathlib.Omega.{arith}
-use Rattle.packet.proofs.Reading.{beacon-codes}
+use Rattle.decode.proofs.Reading.{beacon-codes}
 use Rattle.ground.specs.Ground.{contents}
 use Rattle.ground.proofs.contents.beacon_packet.Statement.{statement}
 use Rattle.ground.proofs.contents.beacon_packet.Tie as tie
 
-slice-aggregate-rates : tie.Need-slice-aggregate-rates
-slice-aggregate-rates c = search needs
-
 rates-requires : tie.Need-rates-requires
 rates-requires c κs = (omega arith, beacon-codes _ (c .before .before .pre .1))
-
-no-settings-requires : tie.Need-no-settings-requires
-no-settings-requires c κs = search needs
-
-accepted-requires : tie.Need-accepted-requires
-accepted-requires c κs = search needs
 
 returns : tie.Need-returns
 unfolding contents
@@ -25,4 +16,4 @@ returns c = simp (c .accepted .ensures, c .before .no-settings .ensures, c .befo
 pub beacon-packet-spec : {M : Type 1} → statement M
 beacon-packet-spec =
     tie.close
-    (tie.spec slice-aggregate-rates rates-requires no-settings-requires accepted-requires returns)
+    (tie.spec (λ c. search needs) rates-requires (λ c κs. search needs) (λ c κs. search needs) returns)

@@ -4,12 +4,9 @@ use Rattle.ground.specs.Ground.{refused}
 use Rattle.ground.proofs.contents.refused.Statement.{statement}
 use Rattle.ground.proofs.contents.refused.Tie as tie
 
-no-settings-requires : tie.Need-no-settings-requires
-no-settings-requires c κs = search needs
-
 returns : tie.Need-returns
 unfolding refused
 returns c = simp (c .no-settings .ensures)
 
 pub refused-spec : {M : Type 1} → statement M
-refused-spec = tie.close (tie.spec no-settings-requires returns)
+refused-spec = tie.close (tie.spec (λ c κs. search needs) returns)

@@ -12,39 +12,6 @@ use borrow.Author.Needs.{needs}
 use Rattle.load.proofs.run.load_word.Statement.{statement}
 use Rattle.load.proofs.run.load_word.Tie as tie
 
-mul-from : tie.Need-mul-from
-mul-from c = search needs
-
-sub-smaller : tie.Need-sub-smaller
-sub-smaller c = search needs
-
-smaller-requires : tie.Need-smaller-requires
-smaller-requires c κs = search needs
-
-add-to : tie.Need-add-to
-add-to c = search needs
-
-mul-put-packed : tie.Need-mul-put-packed
-mul-put-packed c = search needs
-
-add-put-packed : tie.Need-add-put-packed
-add-put-packed c = search needs
-
-sub-put-packed : tie.Need-sub-put-packed
-sub-put-packed c = search needs
-
-part-put-packed-start : tie.Need-part-put-packed-start
-part-put-packed-start c = search needs
-
-part-put-packed-end : tie.Need-part-put-packed-end
-part-put-packed-end c = search needs
-
-put-packed-requires : tie.Need-put-packed-requires
-put-packed-requires c κs = search needs
-
-same-length : tie.Need-same-length
-same-length c = search needs
-
 returns : tie.Need-returns
 returns c =
     let q = c .before .before in
@@ -62,15 +29,15 @@ pub load-word-spec : {M : Type 1} → statement M
 load-word-spec =
     tie.close
     (tie.spec
-    mul-from
-    sub-smaller
-    smaller-requires
-    add-to
-    mul-put-packed
-    add-put-packed
-    sub-put-packed
-    part-put-packed-start
-    part-put-packed-end
-    put-packed-requires
-    same-length
+    (λ c. search needs)
+    (λ c. search needs)
+    (λ c κs. search needs)
+    (λ c. search needs)
+    (λ c. search needs)
+    (λ c. search needs)
+    (λ c. search needs)
+    (λ c. search needs)
+    (λ c. search needs)
+    (λ c κs. search needs)
+    (λ c. search needs)
     returns)

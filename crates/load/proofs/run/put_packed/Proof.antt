@@ -12,30 +12,6 @@ use borrow.Author.Needs.{needs}
 use Rattle.load.proofs.run.put_packed.Statement.{statement}
 use Rattle.load.proofs.run.put_packed.Tie as tie
 
-sub-from : tie.Need-sub-from
-sub-from c = search needs
-
-add-from : tie.Need-add-from
-add-from c = search needs
-
-put-zeros-requires : tie.Need-put-zeros-requires
-put-zeros-requires c κs = search needs
-
-put-bytes-requires : tie.Need-put-bytes-requires
-put-bytes-requires c κs = search needs
-
-add-put-zeros : tie.Need-add-put-zeros
-add-put-zeros c = search needs
-
-add-put-zeros-2 : tie.Need-add-put-zeros-2
-add-put-zeros-2 c = search needs
-
-put-zeros-requires-2 : tie.Need-put-zeros-requires-2
-put-zeros-requires-2 c κs = search needs
-
-same-length : tie.Need-same-length
-same-length c = search needs
-
 returns : tie.Need-returns
 unfolding padded
 returns c =
@@ -63,12 +39,12 @@ pub put-packed-spec : {M : Type 1} → statement M
 put-packed-spec =
     tie.close
     (tie.spec
-    sub-from
-    add-from
-    put-zeros-requires
-    put-bytes-requires
-    add-put-zeros
-    add-put-zeros-2
-    put-zeros-requires-2
-    same-length
+    (λ c. search needs)
+    (λ c. search needs)
+    (λ c κs. search needs)
+    (λ c κs. search needs)
+    (λ c. search needs)
+    (λ c. search needs)
+    (λ c κs. search needs)
+    (λ c. search needs)
     returns)

@@ -33,12 +33,6 @@ mul-at c =
     let s = c .before .before in
     omega arith
 
-word-width-requires : tie.Need-word-width-requires Inv-loop μ-loop
-word-width-requires c κs = search needs
-
-load-words-requires : tie.Need-load-words-requires Inv-loop μ-loop
-load-words-requires c κs = search needs
-
 loop-holds : tie.Need-loop-holds Inv-loop μ-loop
 unfolding packedWords
 loop-holds c = (omega arith, put-nil _ _, refl)
@@ -56,12 +50,6 @@ load-word-requires c κs =
     let starts = words-start (a .y) (a .reach) k (omega arith) in
     let staged = lawful-reach (a .a) (a .y) (a .reach) (s .pre .1) in
     (omega arith, (omega arith, omega (arith, starts), omega (arith, staged)))
-
-add-k : tie.Need-add-k Inv-loop μ-loop
-add-k c = search needs
-
-loop-less : tie.Need-loop-less Inv-loop μ-loop
-loop-less c = search needs
 
 loop-again : tie.Need-loop-again Inv-loop μ-loop
 unfolding packedWords
@@ -83,9 +71,6 @@ loop-again c =
       rw add-one (then (now (a .tables)) at done (packedWord width bytes k) (at + 3 * k) (l .loop .inv .1) e (omega arith) (omega arith)),
       omega arith,
     )
-
-same-length : tie.Need-same-length Inv-loop μ-loop
-same-length c = search needs
 
 returns : tie.Need-returns Inv-loop μ-loop
 unfolding loaded
@@ -109,12 +94,12 @@ run-load-spec =
     μ-loop
     sub-at
     mul-at
-    word-width-requires
-    load-words-requires
+    (λ c κs. search needs)
+    (λ c κs. search needs)
     loop-holds
     load-word-requires
-    add-k
-    loop-less
+    (λ c. search needs)
+    (λ c. search needs)
     loop-again
-    same-length
+    (λ c. search needs)
     returns)

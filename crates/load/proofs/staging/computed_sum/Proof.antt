@@ -6,17 +6,8 @@ use borrow.Author.Needs.{needs}
 use Rattle.load.proofs.staging.computed_sum.Statement.{statement}
 use Rattle.load.proofs.staging.computed_sum.Tie as tie
 
-payload-requires : tie.Need-payload-requires
-payload-requires c κs = search needs
-
-byte-sum-requires : tie.Need-byte-sum-requires
-byte-sum-requires c κs = search needs
-
-cast-result : tie.Need-cast-result
-cast-result c = search needs
-
 returns : tie.Need-returns
 returns c = ap (λ (n : ℕ). n % 65536) (c .byte-sum .ensures .0 ∙ ap total (c .before .payload .ensures .0))
 
 pub computed-sum-spec : {M : Type 1} → statement M
-computed-sum-spec = tie.close (tie.spec payload-requires byte-sum-requires cast-result returns)
+computed-sum-spec = tie.close (tie.spec (λ c κs. search needs) (λ c κs. search needs) (λ c. search needs) returns)

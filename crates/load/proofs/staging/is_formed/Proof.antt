@@ -9,18 +9,9 @@ returns : tie.Need-returns
 unfolding formed
 returns c = rw (lt-leb _ _ (c .if1 .taken))
 
-u16-at-requires : tie.Need-u16-at-requires
-u16-at-requires c κs = search needs
-
-cast-n : tie.Need-cast-n
-cast-n c = search needs
-
-add-result : tie.Need-add-result
-add-result c = search needs
-
 returns-2 : tie.Need-returns-2
 unfolding formed
 returns-2 c = rw (le-leb _ _ (c .before .if1 .left), c .u16-at .ensures)
 
 pub is-formed-spec : {M : Type 1} → statement M
-is-formed-spec = tie.close (tie.spec returns u16-at-requires cast-n add-result returns-2)
+is-formed-spec = tie.close (tie.spec returns (λ c κs. search needs) (λ c. search needs) (λ c. search needs) returns-2)

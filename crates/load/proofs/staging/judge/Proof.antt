@@ -11,9 +11,6 @@ use Rattle.load.proofs.staging.judge.Tie as tie
 well : (c : tie.Else1) → formed (now (c .before .before .before .args .p)) ≡ true
 well c = sym (c .before .is-formed .ensures) ∙ not-false _ (c .if1 .left)
 
-is-formed-requires : tie.Need-is-formed-requires
-is-formed-requires c κs = search needs
-
 returns : tie.Need-returns
 unfolding packageNumber
 returns c = rw (sym (c .before .is-formed .ensures) ∙ not-true _ (c .if1 .taken))
@@ -21,23 +18,11 @@ returns c = rw (sym (c .before .is-formed .ensures) ∙ not-true _ (c .if1 .take
 payload-bytes-requires : tie.Need-payload-bytes-requires
 payload-bytes-requires c κs = well c
 
-cast-fits : tie.Need-cast-fits
-cast-fits c = search needs
-
-add-fits : tie.Need-add-fits
-add-fits c = search needs
-
 received-sum-requires : tie.Need-received-sum-requires
 received-sum-requires c κs = well (c .before)
 
 computed-sum-requires : tie.Need-computed-sum-requires
 computed-sum-requires c κs = well (c .before .before)
-
-unless-requires : tie.Need-unless-requires
-unless-requires c κs = search needs
-
-unless-requires-2 : tie.Need-unless-requires-2
-unless-requires-2 c κs = search needs
 
 returns-2 : tie.Need-returns-2
 unfolding packageNumber
@@ -57,13 +42,13 @@ pub judge-spec : {M : Type 1} → statement M
 judge-spec =
     tie.close
     (tie.spec
-    is-formed-requires
+    (λ c κs. search needs)
     returns
     payload-bytes-requires
-    cast-fits
-    add-fits
+    (λ c. search needs)
+    (λ c. search needs)
     received-sum-requires
     computed-sum-requires
-    unless-requires
-    unless-requires-2
+    (λ c κs. search needs)
+    (λ c κs. search needs)
     returns-2)

@@ -13,9 +13,6 @@ use Rattle.load.proofs.staging.payload.Tie as tie
 u16-at-requires : tie.Need-u16-at-requires
 u16-at-requires c κs = let f = formed-is (now (c .before .args .p)) (c .before .pre) in omega arith
 
-cast-n : tie.Need-cast-n
-cast-n c = search needs
-
 sub-result : tie.Need-sub-result
 sub-result c = let f = formed-is (now (c .before .before .args .p)) (c .before .before .pre) in omega arith
 
@@ -38,4 +35,4 @@ returns c =
 pub payload-spec : {M : Type 1} → statement M
 payload-spec =
     tie.close
-    (tie.spec u16-at-requires cast-n sub-result part-result-start part-result-end returns)
+    (tie.spec u16-at-requires (λ c. search needs) sub-result part-result-start part-result-end returns)

@@ -13,9 +13,6 @@ use Rattle.load.proofs.staging.place.Tie as tie
 abbrev start : tie.After-put-bytes → tie.Start
 start q = q .before .before .before .before .before .before
 
-cast-put-bytes : tie.Need-cast-put-bytes
-cast-put-bytes c = search needs
-
 payload-requires : tie.Need-payload-requires
 payload-requires c κs =
     let s = c .before .before .before .before in
@@ -37,12 +34,6 @@ add-end c =
     let s = start k in
     omega (arith, placeable-fits (now (s .args .p)) (s .args .a .next) (s .pre .1))
 
-larger-requires : tie.Need-larger-requires
-larger-requires c κs = search needs
-
-same-length : tie.Need-same-length
-same-length c = search needs
-
 returns : tie.Need-returns
 unfolding stagingAfter
 returns c =
@@ -58,11 +49,11 @@ pub place-spec : {M : Type 1} → statement M
 place-spec =
     tie.close
     (tie.spec
-    cast-put-bytes
+    (λ c. search needs)
     payload-requires
     put-bytes-requires
     payload-bytes-requires
     add-end
-    larger-requires
-    same-length
+    (λ c κs. search needs)
+    (λ c. search needs)
     returns)

@@ -7,9 +7,6 @@ use borrow.Author.Needs.{needs}
 use Rattle.load.proofs.words.load_lawful.Statement.{statement}
 use Rattle.load.proofs.words.load_lawful.Tie as tie
 
-load-words-requires : tie.Need-load-words-requires
-load-words-requires c κs = search needs
-
 add-result : tie.Need-add-result
 add-result c = omega (arith, words-few (c .before .args .y) (c .before .args .reach), c .load-words .ensures)
 
@@ -18,4 +15,4 @@ unfolding loadLawful
 returns c = rw (c .load-words .ensures) refl
 
 pub load-lawful-spec : {M : Type 1} → statement M
-load-lawful-spec = tie.close (tie.spec load-words-requires add-result returns)
+load-lawful-spec = tie.close (tie.spec (λ c κs. search needs) add-result returns)

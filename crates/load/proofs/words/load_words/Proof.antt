@@ -5,20 +5,8 @@ use borrow.Author.Needs.{needs}
 use Rattle.load.proofs.words.load_words.Statement.{statement}
 use Rattle.load.proofs.words.load_words.Tie as tie
 
-word-width-requires : tie.Need-word-width-requires
-word-width-requires c κs = search needs
-
-sub-result : tie.Need-sub-result
-sub-result c = search needs
-
-add-result : tie.Need-add-result
-add-result c = search needs
-
-div-result : tie.Need-div-result
-div-result c = search needs
-
 returns : tie.Need-returns
 returns c = ap (λ (w : ℕ). (c .before .args .reach + (w - 1)) / w) (c .word-width .ensures .0)
 
 pub load-words-spec : {M : Type 1} → statement M
-load-words-spec = tie.close (tie.spec word-width-requires sub-result add-result div-result returns)
+load-words-spec = tie.close (tie.spec (λ c κs. search needs) (λ c. search needs) (λ c. search needs) (λ c. search needs) returns)

@@ -6,14 +6,8 @@ use borrow.Author.Needs.{needs}
 use Rattle.load.proofs.words.word_width.Statement.{statement}
 use Rattle.load.proofs.words.word_width.Tie as tie
 
-returns : tie.Need-returns
-returns c = search needs
-
-returns-2 : tie.Need-returns-2
-returns-2 c = search needs
-
 returns-3 : tie.Need-returns-3
 returns-3 c = (sym (width-two _ (c .before .if1 .left) (c .if2 .left)), omega arith, omega arith)
 
 pub word-width-spec : {M : Type 1} → statement M
-word-width-spec = tie.close (tie.spec returns returns-2 returns-3)
+word-width-spec = tie.close (tie.spec (λ c. search needs) (λ c. search needs) returns-3)

@@ -16,21 +16,9 @@ close-requires c κs =
     let s = m .before .before .before .before .before .before in
     s .pre .2 (m .match .keys2)
 
-line-requires : tie.Need-line-requires
-line-requires c κs = search needs
-
 returns : tie.Need-returns
 unfolding carriedOut
 returns c = let k = c .before .match .keys1 in (rw k (c .reading .ensures), (rw k, rw k))
-
-same-length : tie.Need-same-length
-same-length c = search needs
-
-same-length-2 : tie.Need-same-length-2
-same-length-2 c = search needs
-
-same-length-3 : tie.Need-same-length-3
-same-length-3 c = search needs
 
 returns-2 : tie.Need-returns-2
 unfolding carriedOut
@@ -55,10 +43,10 @@ carry-out-spec =
     (tie.spec
     reading-requires
     close-requires
-    line-requires
+    (λ c κs. search needs)
     returns
-    same-length
-    same-length-2
-    same-length-3
+    (λ c. search needs)
+    (λ c. search needs)
+    (λ c. search needs)
     returns-2
     returns-3)

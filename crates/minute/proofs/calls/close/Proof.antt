@@ -6,27 +6,6 @@ use borrow.Author.Needs.{needs}
 use Rattle.minute.proofs.calls.close.Statement.{statement}
 use Rattle.minute.proofs.calls.close.Tie as tie
 
-u32-at-requires : tie.Need-u32-at-requires
-u32-at-requires c κs = search needs
-
-slice-aggregate-close : tie.Need-slice-aggregate-close
-slice-aggregate-close c = search needs
-
-close-requires : tie.Need-close-requires
-close-requires c κs = search needs
-
-print-closed-requires : tie.Need-print-closed-requires
-print-closed-requires c κs = search needs
-
-same-length : tie.Need-same-length
-same-length c = search needs
-
-same-length-2 : tie.Need-same-length-2
-same-length-2 c = search needs
-
-same-length-3 : tie.Need-same-length-3
-same-length-3 c = search needs
-
 answer : Closed → Answer
 answer x = record { number = x .number; state = x .state }
 
@@ -43,11 +22,11 @@ pub close-spec : {M : Type 1} → statement M
 close-spec =
     tie.close
     (tie.spec
-    u32-at-requires
-    slice-aggregate-close
-    close-requires
-    print-closed-requires
-    same-length
-    same-length-2
-    same-length-3
+    (λ c κs. search needs)
+    (λ c. search needs)
+    (λ c κs. search needs)
+    (λ c κs. search needs)
+    (λ c. search needs)
+    (λ c. search needs)
+    (λ c. search needs)
     returns)

@@ -5,7 +5,7 @@ use mathlib.Core.Logic.{inl, inr, ⊎-elim}
 use native.Mathlib.Omega.{arith}
 use lib.ListN.{length, take, drop}
 use denote.Ref.{now}
-use Rattle.stream.specs.Input.{waitingIn}
+use Rattle.buffered.specs.Input.{waitingIn}
 use Rattle.minute.specs.Events.{EventsRun}
 use Rattle.minute.proofs.EventLaws.{record-kind, record-body, events-none, events-more}
 use borrow.Author.Needs.{needs}
@@ -28,21 +28,6 @@ loop-holds c =
     let none = events-none (a .state) (now (a .tables)) (now (a .slots)) (waitingIn (a .input) (now (a .buffer))) in
     (s .pre .0, refl, refl, omega arith, rw z none)
 
-sub-loop : tie.Need-sub-loop Inv-loop μ-loop
-sub-loop c = search needs
-
-shared-slice-read-if1 : tie.Need-shared-slice-read-if1 Inv-loop μ-loop
-shared-slice-read-if1 c = search needs
-
-going-on-requires : tie.Need-going-on-requires Inv-loop μ-loop
-going-on-requires c κs = search needs
-
-same-length : tie.Need-same-length Inv-loop μ-loop
-same-length c = search needs
-
-same-length-2 : tie.Need-same-length-2 Inv-loop μ-loop
-same-length-2 c = search needs
-
 returns : tie.Need-returns Inv-loop μ-loop
 returns c =
     let l = c .before .before .before .before in
@@ -50,34 +35,13 @@ returns c =
     let g = c .going-on .ensures in
     (search needs, (rw (g .0, g .1) (v .4), (rw (g .1, g .2) (inr (c .before .if1 .taken)), g .3)))
 
-add-body : tie.Need-add-body Inv-loop μ-loop
-add-body c = search needs
-
 add-body-2 : tie.Need-add-body-2 Inv-loop μ-loop
 add-body-2 c = search needs
-
-sub-body : tie.Need-sub-body Inv-loop μ-loop
-sub-body c = search needs
-
-part-body-start : tie.Need-part-body-start Inv-loop μ-loop
-part-body-start c = search needs
-
-part-body-end : tie.Need-part-body-end Inv-loop μ-loop
-part-body-end c = search needs
-
-event-requires : tie.Need-event-requires Inv-loop μ-loop
-event-requires c κs = search needs
-
-print-refusal-requires : tie.Need-print-refusal-requires Inv-loop μ-loop
-print-refusal-requires c κs = search needs
 
 add-from : tie.Need-add-from Inv-loop μ-loop
 add-from c =
     let b = c .before .before .before .before .before .before .before .before in
     omega (arith, add-body-2 b)
-
-loop-less : tie.Need-loop-less Inv-loop μ-loop
-loop-less c = search needs
 
 loop-again : tie.Need-loop-again Inv-loop μ-loop
 loop-again c =
@@ -105,15 +69,6 @@ loop-again c =
           (record-kind input b (s .pre) from (v .3) g ∙ x .if1 .left) (record-body input b (s .pre) from (v .3) g)),
     )
 
-going-on-requires-2 : tie.Need-going-on-requires-2 Inv-loop μ-loop
-going-on-requires-2 c κs = search needs
-
-same-length-3 : tie.Need-same-length-3 Inv-loop μ-loop
-same-length-3 c = search needs
-
-same-length-4 : tie.Need-same-length-4 Inv-loop μ-loop
-same-length-4 c = search needs
-
 returns-2 : tie.Need-returns-2 Inv-loop μ-loop
 returns-2 c =
     let v = c .before .before .loop .inv in
@@ -127,23 +82,23 @@ events-spec =
     Inv-loop
     μ-loop
     loop-holds
-    sub-loop
-    shared-slice-read-if1
-    going-on-requires
-    same-length
-    same-length-2
+    (λ c. search needs)
+    (λ c. search needs)
+    (λ c κs. search needs)
+    (λ c. search needs)
+    (λ c. search needs)
     returns
-    add-body
+    (λ c. search needs)
     add-body-2
-    sub-body
-    part-body-start
-    part-body-end
-    event-requires
-    print-refusal-requires
+    (λ c. search needs)
+    (λ c. search needs)
+    (λ c. search needs)
+    (λ c κs. search needs)
+    (λ c κs. search needs)
     add-from
-    loop-less
+    (λ c. search needs)
     loop-again
-    going-on-requires-2
-    same-length-3
-    same-length-4
+    (λ c κs. search needs)
+    (λ c. search needs)
+    (λ c. search needs)
     returns-2)

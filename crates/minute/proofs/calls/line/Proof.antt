@@ -5,17 +5,8 @@ use borrow.Author.Needs.{needs}
 use Rattle.minute.proofs.calls.line.Statement.{statement}
 use Rattle.minute.proofs.calls.line.Tie as tie
 
-line-length-requires : tie.Need-line-length-requires
-line-length-requires c κs = search needs
-
 slice-aggregate-line : tie.Need-slice-aggregate-line
 slice-aggregate-line c = sym (length-take-le _ _ (c .before .line-length .ensures .1))
-
-slice-aggregate-line-2 : tie.Need-slice-aggregate-line-2
-slice-aggregate-line-2 c = search needs
-
-line-requires : tie.Need-line-requires
-line-requires c κs = search needs
 
 returns : tie.Need-returns
 returns c =
@@ -25,4 +16,4 @@ returns c =
 pub line-spec : {M : Type 1} → statement M
 line-spec =
     tie.close
-    (tie.spec line-length-requires slice-aggregate-line slice-aggregate-line-2 line-requires returns)
+    (tie.spec (λ c κs. search needs) slice-aggregate-line (λ c. search needs) (λ c κs. search needs) returns)

@@ -2,19 +2,13 @@
 use mathlib.Core.Path.{refl}
 use native.Mathlib.Omega.{arith}
 use denote.Ref.{now}
-use Rattle.stream.specs.Input.{waitingIn}
-use Rattle.stream.proofs.InputLaws.{length-waiting, begins-none}
+use Rattle.buffered.specs.Input.{waitingIn}
+use Rattle.buffered.proofs.InputLaws.{length-waiting, begins-none}
 use Rattle.stream.proofs.RecordLaws.{found-then}
 use Rattle.minute.proofs.RecordLaws.{body-long}
 use borrow.Author.Needs.{needs}
 use Rattle.minute.proofs.records.next.Statement.{statement}
 use Rattle.minute.proofs.records.next.Tie as tie
-
-fill-requires : tie.Need-fill-requires
-fill-requires c κs = search needs
-
-same-length : tie.Need-same-length
-same-length c = search needs
 
 returns : tie.Need-returns
 returns c =
@@ -23,27 +17,12 @@ returns c =
     let l = length-waiting (f .fill .result) (f .fill .last .0) (f .fill .ensures .0) in
     (begins-none (waitingIn (a .input) (now (a .buffer))) _ (f .fill .ensures .1) (omega (arith, l)), tt)
 
-slice-read-kind : tie.Need-slice-read-kind
-slice-read-kind c = search needs
-
-body-bytes-requires : tie.Need-body-bytes-requires
-body-bytes-requires c κs = search needs
-
-same-length-2 : tie.Need-same-length-2
-same-length-2 c = search needs
-
-returns-2 : tie.Need-returns-2
-returns-2 c = search needs
-
 whole-requires : tie.Need-whole-requires
 whole-requires c κs =
     let b = c .before .before .before in
     let f = b .before .before .before .before .before .before in
     let e = f .fill .ensures in
     (e .0, (omega (arith, b .body-bytes .ensures .0), (omega (arith, e .0), refl)))
-
-same-length-3 : tie.Need-same-length-3
-same-length-3 c = search needs
 
 returns-3 : tie.Need-returns-3
 returns-3 c =
@@ -61,13 +40,13 @@ pub next-spec : {M : Type 1} → statement M
 next-spec =
     tie.close
     (tie.spec
-    fill-requires
-    same-length
+    (λ c κs. search needs)
+    (λ c. search needs)
     returns
-    slice-read-kind
-    body-bytes-requires
-    same-length-2
-    returns-2
+    (λ c. search needs)
+    (λ c κs. search needs)
+    (λ c. search needs)
+    (λ c. search needs)
     whole-requires
-    same-length-3
+    (λ c. search needs)
     returns-3)

@@ -7,27 +7,6 @@ use Rattle.packet.proofs.Written.{sum-written}
 use Rattle.packet.proofs.envelope.write_sum.Statement.{statement}
 use Rattle.packet.proofs.envelope.write_sum.Tie as tie
 
-sub-byte-sum : tie.Need-sub-byte-sum
-sub-byte-sum c = search needs
-
-part-byte-sum-start : tie.Need-part-byte-sum-start
-part-byte-sum-start c = search needs
-
-part-byte-sum-end : tie.Need-part-byte-sum-end
-part-byte-sum-end c = search needs
-
-byte-sum-requires : tie.Need-byte-sum-requires
-byte-sum-requires c κs = search needs
-
-cast-put-u8 : tie.Need-cast-put-u8
-cast-put-u8 c = search needs
-
-put-u8-requires : tie.Need-put-u8-requires
-put-u8-requires c κs = search needs
-
-same-length : tie.Need-same-length
-same-length c = search needs
-
 returns : tie.Need-returns
 returns c =
     let c2 = c .before .before in
@@ -39,11 +18,11 @@ pub write-sum-spec : {M : Type 1} → statement M
 write-sum-spec =
     tie.close
     (tie.spec
-    sub-byte-sum
-    part-byte-sum-start
-    part-byte-sum-end
-    byte-sum-requires
-    cast-put-u8
-    put-u8-requires
-    same-length
+    (λ c. search needs)
+    (λ c. search needs)
+    (λ c. search needs)
+    (λ c κs. search needs)
+    (λ c. search needs)
+    (λ c κs. search needs)
+    (λ c. search needs)
     returns)

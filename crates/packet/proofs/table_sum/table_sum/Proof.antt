@@ -22,32 +22,11 @@ loop-holds : tie.Need-loop-holds Inv-loop μ-loop
 unfolding table total
 loop-holds c = (omega arith, omega arith, refl)
 
-add-word : tie.Need-add-word Inv-loop μ-loop
-add-word c = search needs
-
-word-requires : tie.Need-word-requires Inv-loop μ-loop
-word-requires c κs = search needs
-
-cast-sum : tie.Need-cast-sum Inv-loop μ-loop
-cast-sum c = search needs
-
-add-sum : tie.Need-add-sum Inv-loop μ-loop
-add-sum c = search needs
-
-add-i : tie.Need-add-i Inv-loop μ-loop
-add-i c = search needs
-
-loop-less : tie.Need-loop-less Inv-loop μ-loop
-loop-less c = search needs
-
 loop-again : tie.Need-loop-again Inv-loop μ-loop
 loop-again c =
     let l = c .before .before in
     let tables = now (l .before .before .args .tables) in
     (omega arith, omega arith, omega (arith, total-more (λ k. wordAt tables (first + k)) (l .loop .i)))
-
-cast-result : tie.Need-cast-result Inv-loop μ-loop
-cast-result c = search needs
 
 returns : tie.Need-returns Inv-loop μ-loop
 unfolding tableSum
@@ -65,12 +44,12 @@ table-sum-spec =
     Inv-loop
     μ-loop
     loop-holds
-    add-word
-    word-requires
-    cast-sum
-    add-sum
-    add-i
-    loop-less
+    (λ c. search needs)
+    (λ c κs. search needs)
+    (λ c. search needs)
+    (λ c. search needs)
+    (λ c. search needs)
+    (λ c. search needs)
     loop-again
-    cast-result
+    (λ c. search needs)
     returns)

@@ -14,24 +14,6 @@ use Rattle.packet.proofs.Written.{length-codes, length-beacon-body, pac
 use Rattle.packet.proofs.write.write_beacon.Statement.{statement}
 use Rattle.packet.proofs.write.write_beacon.Tie as tie
 
-write-header-requires : tie.Need-write-header-requires
-write-header-requires c κs = search needs
-
-write-codes-requires : tie.Need-write-codes-requires
-write-codes-requires c κs = search needs
-
-put-zeros-requires : tie.Need-put-zeros-requires
-put-zeros-requires c κs = search needs
-
-write-trailer-requires : tie.Need-write-trailer-requires
-write-trailer-requires c κs = search needs
-
-write-sum-requires : tie.Need-write-sum-requires
-write-sum-requires c κs = search needs
-
-same-length : tie.Need-same-length
-same-length c = search needs
-
 returns : tie.Need-returns
 unfolding beaconPacket
 returns c =
@@ -55,10 +37,10 @@ pub write-beacon-spec : {M : Type 1} → statement M
 write-beacon-spec =
     tie.close
     (tie.spec
-    write-header-requires
-    write-codes-requires
-    put-zeros-requires
-    write-trailer-requires
-    write-sum-requires
-    same-length
+    (λ c κs. search needs)
+    (λ c κs. search needs)
+    (λ c κs. search needs)
+    (λ c κs. search needs)
+    (λ c κs. search needs)
+    (λ c. search needs)
     returns)

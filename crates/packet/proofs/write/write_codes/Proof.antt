@@ -25,29 +25,8 @@ loop-holds : tie.Need-loop-holds Inv-loop μ-loop
 unfolding codes runs
 loop-holds c = (omega arith, put-nil _ _, refl)
 
-mul-put-u16 : tie.Need-mul-put-u16 Inv-loop μ-loop
-mul-put-u16 c = search needs
-
-add-put-u16 : tie.Need-add-put-u16 Inv-loop μ-loop
-add-put-u16 c = search needs
-
-mul-encode : tie.Need-mul-encode Inv-loop μ-loop
-mul-encode c = search needs
-
-shared-slice-read-encode : tie.Need-shared-slice-read-encode Inv-loop μ-loop
-shared-slice-read-encode c = search needs
-
 encode-requires : tie.Need-encode-requires Inv-loop μ-loop
 encode-requires c κs = let l = c .before .before .before in l .before .before .before .pre .1 (l .loop .i)
-
-put-u16-requires : tie.Need-put-u16-requires Inv-loop μ-loop
-put-u16-requires c κs = search needs
-
-add-i : tie.Need-add-i Inv-loop μ-loop
-add-i c = search needs
-
-loop-less : tie.Need-loop-less Inv-loop μ-loop
-loop-less c = search needs
 
 loop-again : tie.Need-loop-again Inv-loop μ-loop
 loop-again c =
@@ -66,9 +45,6 @@ loop-again c =
       omega arith,
     )
 
-same-length : tie.Need-same-length Inv-loop μ-loop
-same-length c = search needs
-
 returns : tie.Need-returns Inv-loop μ-loop
 returns c =
     let l = c .before in
@@ -82,14 +58,14 @@ write-codes-spec =
     Inv-loop
     μ-loop
     loop-holds
-    mul-put-u16
-    add-put-u16
-    mul-encode
-    shared-slice-read-encode
+    (λ c. search needs)
+    (λ c. search needs)
+    (λ c. search needs)
+    (λ c. search needs)
     encode-requires
-    put-u16-requires
-    add-i
-    loop-less
+    (λ c κs. search needs)
+    (λ c. search needs)
+    (λ c. search needs)
     loop-again
-    same-length
+    (λ c. search needs)
     returns)

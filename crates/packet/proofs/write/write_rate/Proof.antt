@@ -13,27 +13,6 @@ use Rattle.packet.proofs.Written.{length-codes, length-rate-body, packe
 use Rattle.packet.proofs.write.write_rate.Statement.{statement}
 use Rattle.packet.proofs.write.write_rate.Tie as tie
 
-write-header-requires : tie.Need-write-header-requires
-write-header-requires c κs = search needs
-
-write-codes-requires : tie.Need-write-codes-requires
-write-codes-requires c κs = search needs
-
-write-codes-requires-2 : tie.Need-write-codes-requires-2
-write-codes-requires-2 c κs = search needs
-
-write-settings-requires : tie.Need-write-settings-requires
-write-settings-requires c κs = search needs
-
-write-trailer-requires : tie.Need-write-trailer-requires
-write-trailer-requires c κs = search needs
-
-write-sum-requires : tie.Need-write-sum-requires
-write-sum-requires c κs = search needs
-
-same-length : tie.Need-same-length
-same-length c = search needs
-
 returns : tie.Need-returns
 unfolding ratePacket
 returns c =
@@ -65,11 +44,11 @@ pub write-rate-spec : {M : Type 1} → statement M
 write-rate-spec =
     tie.close
     (tie.spec
-    write-header-requires
-    write-codes-requires
-    write-codes-requires-2
-    write-settings-requires
-    write-trailer-requires
-    write-sum-requires
-    same-length
+    (λ c κs. search needs)
+    (λ c κs. search needs)
+    (λ c κs. search needs)
+    (λ c κs. search needs)
+    (λ c κs. search needs)
+    (λ c κs. search needs)
+    (λ c. search needs)
     returns)

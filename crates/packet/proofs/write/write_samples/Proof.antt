@@ -7,27 +7,6 @@ use Rattle.packet.proofs.Written.{length-sample-body, packet-written}
 use Rattle.packet.proofs.write.write_samples.Statement.{statement}
 use Rattle.packet.proofs.write.write_samples.Tie as tie
 
-cast-write-header : tie.Need-cast-write-header
-cast-write-header c = search needs
-
-add-write-header : tie.Need-add-write-header
-add-write-header c = search needs
-
-write-header-requires : tie.Need-write-header-requires
-write-header-requires c κs = search needs
-
-put-words-requires : tie.Need-put-words-requires
-put-words-requires c κs = search needs
-
-write-trailer-requires : tie.Need-write-trailer-requires
-write-trailer-requires c κs = search needs
-
-write-sum-requires : tie.Need-write-sum-requires
-write-sum-requires c κs = search needs
-
-same-length : tie.Need-same-length
-same-length c = search needs
-
 returns : tie.Need-returns
 unfolding samplePacket
 returns c =
@@ -44,11 +23,11 @@ pub write-samples-spec : {M : Type 1} → statement M
 write-samples-spec =
     tie.close
     (tie.spec
-    cast-write-header
-    add-write-header
-    write-header-requires
-    put-words-requires
-    write-trailer-requires
-    write-sum-requires
-    same-length
+    (λ c. search needs)
+    (λ c. search needs)
+    (λ c κs. search needs)
+    (λ c κs. search needs)
+    (λ c κs. search needs)
+    (λ c κs. search needs)
+    (λ c. search needs)
     returns)

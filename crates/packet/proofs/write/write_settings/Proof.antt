@@ -12,27 +12,6 @@ use Rattle.packet.specs.Packet.{settingsBytes}
 use Rattle.packet.proofs.write.write_settings.Statement.{statement}
 use Rattle.packet.proofs.write.write_settings.Tie as tie
 
-put-u8-requires : tie.Need-put-u8-requires
-put-u8-requires c κs = search needs
-
-put-u8-requires-2 : tie.Need-put-u8-requires-2
-put-u8-requires-2 c κs = search needs
-
-flags-requires : tie.Need-flags-requires
-flags-requires c κs = search needs
-
-put-u8-requires-3 : tie.Need-put-u8-requires-3
-put-u8-requires-3 c κs = search needs
-
-put-u16-requires : tie.Need-put-u16-requires
-put-u16-requires c κs = search needs
-
-put-u24-requires : tie.Need-put-u24-requires
-put-u24-requires c κs = search needs
-
-same-length : tie.Need-same-length
-same-length c = search needs
-
 returns : tie.Need-returns
 unfolding settingsBytes
 returns c =
@@ -55,11 +34,11 @@ pub write-settings-spec : {M : Type 1} → statement M
 write-settings-spec =
     tie.close
     (tie.spec
-    put-u8-requires
-    put-u8-requires-2
-    flags-requires
-    put-u8-requires-3
-    put-u16-requires
-    put-u24-requires
-    same-length
+    (λ c κs. search needs)
+    (λ c κs. search needs)
+    (λ c κs. search needs)
+    (λ c κs. search needs)
+    (λ c κs. search needs)
+    (λ c κs. search needs)
+    (λ c. search needs)
     returns)

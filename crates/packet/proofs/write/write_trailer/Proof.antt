@@ -7,18 +7,6 @@ use Rattle.packet.specs.Packet.{trailer}
 use Rattle.packet.proofs.write.write_trailer.Statement.{statement}
 use Rattle.packet.proofs.write.write_trailer.Tie as tie
 
-put-u16-requires : tie.Need-put-u16-requires
-put-u16-requires c κs = search needs
-
-put-u8-requires : tie.Need-put-u8-requires
-put-u8-requires c κs = search needs
-
-put-u8-requires-2 : tie.Need-put-u8-requires-2
-put-u8-requires-2 c κs = search needs
-
-same-length : tie.Need-same-length
-same-length c = search needs
-
 returns : tie.Need-returns
 unfolding trailer
 returns c =
@@ -31,4 +19,4 @@ returns c =
 
 pub write-trailer-spec : {M : Type 1} → statement M
 write-trailer-spec =
-    tie.close (tie.spec put-u16-requires put-u8-requires put-u8-requires-2 same-length returns)
+    tie.close (tie.spec (λ c κs. search needs) (λ c κs. search needs) (λ c κs. search needs) (λ c. search needs) returns)

@@ -7,7 +7,7 @@ use mathlib.Core.Path.{_≡_}
 use native.Mathlib.Omega.{arith}
 use lib.ListN.{length, length-set}
 use Rattle.wire.specs.Lists.{EachBelow}
-use Rattle.packet.specs.Rate.{countLimit}
+use Rattle.rate_code.specs.Rate.{countLimit}
 use Rattle.packet_cases.proofs.values.fill_counts.Statement.{statement}
 use Rattle.packet_cases.proofs.values.fill_counts.Tie as tie
 
@@ -18,30 +18,6 @@ Inv-loop counts₀ seed x₀ i₀ counts x i =
 abbrev μ-loop : tie.MeasureT-loop
 μ-loop counts₀ seed x₀ i₀ counts x i = length counts₀ - i
 
-loop-holds : tie.Need-loop-holds Inv-loop μ-loop
-loop-holds c = search needs
-
-next-requires : tie.Need-next-requires Inv-loop μ-loop
-next-requires c κs = search needs
-
-cast-counts : tie.Need-cast-counts Inv-loop μ-loop
-cast-counts c = search needs
-
-shr-counts : tie.Need-shr-counts Inv-loop μ-loop
-shr-counts c = search needs
-
-mul-counts : tie.Need-mul-counts Inv-loop μ-loop
-mul-counts c = search needs
-
-slice-write-counts : tie.Need-slice-write-counts Inv-loop μ-loop
-slice-write-counts c = search needs
-
-add-i : tie.Need-add-i Inv-loop μ-loop
-add-i c = search needs
-
-loop-less : tie.Need-loop-less Inv-loop μ-loop
-loop-less c = search needs
-
 loop-again : tie.Need-loop-again Inv-loop μ-loop
 loop-again c =
     let l = c .before .before in (
@@ -51,26 +27,20 @@ loop-again c =
       simp length-set (omega arith),
     )
 
-same-length : tie.Need-same-length Inv-loop μ-loop
-same-length c = search needs
-
-returns : tie.Need-returns Inv-loop μ-loop
-returns c = search needs
-
 pub fill-counts-spec : {M : Type 1} → statement M
 fill-counts-spec =
     tie.close
     (tie.spec
     Inv-loop
     μ-loop
-    loop-holds
-    next-requires
-    cast-counts
-    shr-counts
-    mul-counts
-    slice-write-counts
-    add-i
-    loop-less
+    (λ c. search needs)
+    (λ c κs. search needs)
+    (λ c. search needs)
+    (λ c. search needs)
+    (λ c. search needs)
+    (λ c. search needs)
+    (λ c. search needs)
+    (λ c. search needs)
     loop-again
-    same-length
-    returns)
+    (λ c. search needs)
+    (λ c. search needs))

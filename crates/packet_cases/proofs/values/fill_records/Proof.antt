@@ -3,7 +3,7 @@ use borrow.Author.Needs.{needs}
 use Prim.Native.Nat.{_≤_, _<_, _-_}
 use mathlib.Core.Path.{_≡_}
 use lib.ListN.{length}
-use Rattle.packet.specs.Rate.{countLimit}
+use Rattle.rate_code.specs.Rate.{countLimit}
 use Rattle.packet_cases.proofs.values.fill_records.Statement.{statement}
 use Rattle.packet_cases.proofs.values.fill_records.Tie as tie
 
@@ -13,49 +13,19 @@ Inv-loop records₀ seed x₀ i₀ records x i = (i ≤ length records₀) × (x
 abbrev μ-loop : tie.MeasureT-loop
 μ-loop records₀ seed x₀ i₀ records x i = length records₀ - i
 
-loop-holds : tie.Need-loop-holds Inv-loop μ-loop
-loop-holds c = search needs
-
-next-requires : tie.Need-next-requires Inv-loop μ-loop
-next-requires c κs = search needs
-
-record-requires : tie.Need-record-requires Inv-loop μ-loop
-record-requires c κs = search needs
-
-mul-records : tie.Need-mul-records Inv-loop μ-loop
-mul-records c = search needs
-
-slice-write-records : tie.Need-slice-write-records Inv-loop μ-loop
-slice-write-records c = search needs
-
-add-i : tie.Need-add-i Inv-loop μ-loop
-add-i c = search needs
-
-loop-less : tie.Need-loop-less Inv-loop μ-loop
-loop-less c = search needs
-
-loop-again : tie.Need-loop-again Inv-loop μ-loop
-loop-again c = search needs
-
-same-length : tie.Need-same-length Inv-loop μ-loop
-same-length c = search needs
-
-returns : tie.Need-returns Inv-loop μ-loop
-returns c = search needs
-
 pub fill-records-spec : {M : Type 1} → statement M
 fill-records-spec =
     tie.close
     (tie.spec
     Inv-loop
     μ-loop
-    loop-holds
-    next-requires
-    record-requires
-    mul-records
-    slice-write-records
-    add-i
-    loop-less
-    loop-again
-    same-length
-    returns)
+    (λ c. search needs)
+    (λ c κs. search needs)
+    (λ c κs. search needs)
+    (λ c. search needs)
+    (λ c. search needs)
+    (λ c. search needs)
+    (λ c. search needs)
+    (λ c. search needs)
+    (λ c. search needs)
+    (λ c. search needs))

@@ -33,15 +33,6 @@ written r = let k = r .before .before in k .before .before
 abbrev loaded : tie.After-clear → tie.After-run-loads
 loaded r = let k = r .before .before in k .before .before
 
-close-number-requires : tie.Need-close-number-requires
-close-number-requires c κs = search needs
-
-refused-requires : tie.Need-refused-requires
-refused-requires c κs = search needs
-
-same-length : tie.Need-same-length
-same-length c = search needs
-
 returns : tie.Need-returns
 unfolding closeDone
 returns c =
@@ -51,9 +42,6 @@ returns c =
       simp (e, n) (λ i. record { number = r .0 i; state = r .1 i; taken = r .2 i; counts = r .3 i; filled = r .4 i }),
       (simp (e, n), (simp (e, n), simp (e, n))),
     )
-
-filled-requires : tie.Need-filled-requires
-filled-requires c κs = search needs
 
 write-packets-requires : tie.Need-write-packets-requires
 write-packets-requires c κs =
@@ -67,21 +55,6 @@ run-loads-requires c κs =
     let l = counted p .before .before in
     let k = closes-is l in
     ((k .tables-are, k .staging-is), state-limits (entry (l .before) .args .state) (k .limits) .orders)
-
-clear-requires : tie.Need-clear-requires
-clear-requires c κs = search needs
-
-closed-state-requires : tie.Need-closed-state-requires
-closed-state-requires c κs = search needs
-
-same-length-2 : tie.Need-same-length-2
-same-length-2 c = search needs
-
-same-length-3 : tie.Need-same-length-3
-same-length-3 c = search needs
-
-same-length-4 : tie.Need-same-length-4
-same-length-4 c = search needs
 
 returns-2 : tie.Need-returns-2
 unfolding closeDone
@@ -101,16 +74,16 @@ pub close-spec : {M : Type 1} → statement M
 close-spec =
     tie.close
     (tie.spec
-    close-number-requires
-    refused-requires
-    same-length
+    (λ c κs. search needs)
+    (λ c κs. search needs)
+    (λ c. search needs)
     returns
-    filled-requires
+    (λ c κs. search needs)
     write-packets-requires
     run-loads-requires
-    clear-requires
-    closed-state-requires
-    same-length-2
-    same-length-3
-    same-length-4
+    (λ c κs. search needs)
+    (λ c κs. search needs)
+    (λ c. search needs)
+    (λ c. search needs)
+    (λ c. search needs)
     returns-2)

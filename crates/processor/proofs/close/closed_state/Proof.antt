@@ -5,18 +5,6 @@ use borrow.Author.Needs.{needs}
 use Rattle.processor.proofs.close.closed_state.Statement.{statement}
 use Rattle.processor.proofs.close.closed_state.Tie as tie
 
-run-settings-requires : tie.Need-run-settings-requires
-run-settings-requires c κs = search needs
-
-run-addresses-requires : tie.Need-run-addresses-requires
-run-addresses-requires c κs = search needs
-
-fresh-requires : tie.Need-fresh-requires
-fresh-requires c κs = search needs
-
-next-frame-requires : tie.Need-next-frame-requires
-next-frame-requires c κs = search needs
-
 returns : tie.Need-returns
 unfolding stateClosed freshState
 returns c =
@@ -28,8 +16,8 @@ pub closed-state-spec : {M : Type 1} → statement M
 closed-state-spec =
     tie.close
     (tie.spec
-    run-settings-requires
-    run-addresses-requires
-    fresh-requires
-    next-frame-requires
+    (λ c κs. search needs)
+    (λ c κs. search needs)
+    (λ c κs. search needs)
+    (λ c κs. search needs)
     returns)

@@ -7,9 +7,6 @@ use borrow.Author.Needs.{needs}
 use Rattle.processor.proofs.event.event.Statement.{statement}
 use Rattle.processor.proofs.event.event.Tie as tie
 
-event-number-requires : tie.Need-event-number-requires
-event-number-requires c κs = search needs
-
 returns : tie.Need-returns
 unfolding eventDone
 returns c =
@@ -24,9 +21,6 @@ take-event-requires c κs =
     let t = event-takes (s .args .state) _ _ (s .args .event) (sym (n .event-number .ensures) ∙ c .before .if1 .left) in
     ((t .tables-are, t .slots-are), (t .limits, (t .range, t .room)))
 
-same-length : tie.Need-same-length
-same-length c = search needs
-
 returns-2 : tie.Need-returns-2
 unfolding eventDone
 returns-2 c =
@@ -36,4 +30,4 @@ returns-2 c =
     (simp (e, t .take-event .ensures .0), simp (e, t .take-event .ensures .1))
 
 pub event-spec : {M : Type 1} → statement M
-event-spec = tie.close (tie.spec event-number-requires returns take-event-requires same-length returns-2)
+event-spec = tie.close (tie.spec (λ c κs. search needs) returns take-event-requires (λ c. search needs) returns-2)

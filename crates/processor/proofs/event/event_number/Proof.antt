@@ -10,12 +10,6 @@ use borrow.Author.Needs.{needs}
 use Rattle.processor.proofs.event.event_number.Statement.{statement}
 use Rattle.processor.proofs.event.event_number.Tie as tie
 
-within-limits-requires : tie.Need-within-limits-requires
-within-limits-requires c κs = search needs
-
-cast-sound : tie.Need-cast-sound
-cast-sound c = search needs
-
 returns : tie.Need-returns
 unfolding eventNumber
 returns c =
@@ -23,15 +17,6 @@ returns c =
     let a = w .before .args in
     let e : (w .within-limits .result && eqb (a .tables) tableBytes && eqb (a .slots) slotCount) ≡ false = not-true _ (c .if1 .taken) in
     simp (sym (w .within-limits .ensures), e)
-
-in-range-requires : tie.Need-in-range-requires
-in-range-requires c κs = search needs
-
-unless-requires : tie.Need-unless-requires
-unless-requires c κs = search needs
-
-unless-requires-2 : tie.Need-unless-requires-2
-unless-requires-2 c κs = search needs
 
 returns-2 : tie.Need-returns-2
 unfolding eventNumber
@@ -47,10 +32,10 @@ pub event-number-spec : {M : Type 1} → statement M
 event-number-spec =
     tie.close
     (tie.spec
-    within-limits-requires
-    cast-sound
+    (λ c κs. search needs)
+    (λ c. search needs)
     returns
-    in-range-requires
-    unless-requires
-    unless-requires-2
+    (λ c κs. search needs)
+    (λ c κs. search needs)
+    (λ c κs. search needs)
     returns-2)

@@ -5,28 +5,10 @@ use borrow.Author.Needs.{needs}
 use Rattle.processor.proofs.event.place_record.Statement.{statement}
 use Rattle.processor.proofs.event.place_record.Tie as tie
 
-eligible-requires : tie.Need-eligible-requires
-eligible-requires c κs = search needs
-
 returns : tie.Need-returns
 returns c =
     let e = sym (c .before .eligible .ensures) ∙ not-true _ (c .if1 .taken) in
     (simp e, simp e)
-
-cast-limhi : tie.Need-cast-limhi
-cast-limhi c = search needs
-
-record-of-requires : tie.Need-record-of-requires
-record-of-requires c κs = search needs
-
-priority-of-requires : tie.Need-priority-of-requires
-priority-of-requires c κs = search needs
-
-place-requires : tie.Need-place-requires
-place-requires c κs = search needs
-
-same-length : tie.Need-same-length
-same-length c = search needs
 
 returns-2 : tie.Need-returns-2
 returns-2 c =
@@ -44,11 +26,11 @@ pub place-record-spec : {M : Type 1} → statement M
 place-record-spec =
     tie.close
     (tie.spec
-    eligible-requires
+    (λ c κs. search needs)
     returns
-    cast-limhi
-    record-of-requires
-    priority-of-requires
-    place-requires
-    same-length
+    (λ c. search needs)
+    (λ c κs. search needs)
+    (λ c κs. search needs)
+    (λ c κs. search needs)
+    (λ c. search needs)
     returns-2)

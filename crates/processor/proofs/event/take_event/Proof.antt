@@ -2,16 +2,13 @@
 use mathlib.Core.Path.{sym, subst}
 use borrow.Author.Tests.{leb-true}
 use denote.Ref.{now}
-use Rattle.sort.specs.Counts.{OutcomeNames}
+use Rattle.sort.specs.Boxes.{OutcomeNames}
 use Rattle.sort.proofs.EventLaws.{outcome-names}
 use Rattle.state.proofs.LimitLaws.{state-limits, boxes-below, beacons-below}
 use Rattle.processor.specs.Event.{intervalTaken}
 use borrow.Author.Needs.{needs}
 use Rattle.processor.proofs.event.take_event.Statement.{statement}
 use Rattle.processor.proofs.event.take_event.Tie as tie
-
-outcome-of-requires : tie.Need-outcome-of-requires
-outcome-of-requires c κs = search needs
 
 names : (k : tie.After-outcome-of) → OutcomeNames (k .outcome-of .result)
 names k =
@@ -32,12 +29,6 @@ counted-requires c κs =
     let w = state-limits (s .args .s) (s .pre .1 .0) .interval in
     (names o, (boxes-below 1000000 i w (s .pre .1 .1 .1), beacons-below 1000000 i w (s .pre .1 .1 .1)))
 
-add-i : tie.Need-add-i
-add-i c = search needs
-
-same-length : tie.Need-same-length
-same-length c = search needs
-
 returns : tie.Need-returns
 unfolding intervalTaken
 returns c =
@@ -52,9 +43,9 @@ pub take-event-spec : {M : Type 1} → statement M
 take-event-spec =
     tie.close
     (tie.spec
-    outcome-of-requires
+    (λ c κs. search needs)
     place-record-requires
     counted-requires
-    add-i
-    same-length
+    (λ c. search needs)
+    (λ c. search needs)
     returns)

@@ -23,15 +23,6 @@ accepted-room s l h k =
     let a = command-accepts (loadWaits (s .orders)) (commandsFull (s .orders)) l h in
     room (s .orders) (rw k at (a .room))
 
-enum-told : tie.Need-enum-told
-enum-told c = search needs
-
-enum-told-2 : tie.Need-enum-told-2
-enum-told-2 c = search needs
-
-enum-known-l : tie.Need-enum-known-l
-enum-known-l c = search needs
-
 keep-waiting-requires : tie.Need-keep-waiting-requires
 keep-waiting-requires c κs =
     let s = c .before .before .before in
@@ -39,19 +30,10 @@ keep-waiting-requires c κs =
     let w = orders-are (s .args .s .orders) (s .args .s .staging .reach) (state-limits (s .args .s) (s .pre .0) .orders) in
     (omega (arith, w .waiters-most), r)
 
-enum-told-3 : tie.Need-enum-told-3
-enum-told-3 c = search needs
-
-fresh-addresses-requires : tie.Need-fresh-addresses-requires
-fresh-addresses-requires c κs = search needs
-
 set-addresses-requires : tie.Need-set-addresses-requires
 set-addresses-requires c κs =
     let s = c .before .before .before in
     accepted-room (s .args .s) (s .args .l) (s .pre .1) (ap isCommand (c .before .enum-told3 .given .1))
-
-enum-known-l-2 : tie.Need-enum-known-l-2
-enum-known-l-2 c = search needs
 
 set-addresses-requires-2 : tie.Need-set-addresses-requires-2
 set-addresses-requires-2 c κs =
@@ -89,14 +71,14 @@ pub after-line-spec : {M : Type 1} → statement M
 after-line-spec =
     tie.close
     (tie.spec
-    enum-told
-    enum-told-2
-    enum-known-l
+    (λ c. search needs)
+    (λ c. search needs)
+    (λ c. search needs)
     keep-waiting-requires
-    enum-told-3
-    fresh-addresses-requires
+    (λ c. search needs)
+    (λ c κs. search needs)
     set-addresses-requires
-    enum-known-l-2
+    (λ c. search needs)
     set-addresses-requires-2
     returns
     returns-2

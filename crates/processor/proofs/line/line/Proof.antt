@@ -5,7 +5,7 @@ use borrow.Author.Tests.{ne-eqb}
 use denote.Ref.{now}
 use lib.Dec.{eqb}
 use lib.ListN.{length}
-use Rattle.command.specs.Echo.{echoBytes}
+use Rattle.echo.specs.Echo.{echoBytes}
 use Rattle.command.specs.Grammar.{bytesOk}
 use Rattle.state.specs.Limits.{withinLimits}
 use Rattle.processor.specs.Line.{lineDone}
@@ -13,18 +13,6 @@ use Rattle.processor.proofs.CallLaws.{line-short, line-early, early-pas
 use borrow.Author.Needs.{needs}
 use Rattle.processor.proofs.line.line.Statement.{statement}
 use Rattle.processor.proofs.line.line.Tie as tie
-
-within-limits-requires : tie.Need-within-limits-requires
-within-limits-requires c κs = search needs
-
-bytes-ok-requires : tie.Need-bytes-ok-requires
-bytes-ok-requires c κs = search needs
-
-unless-requires : tie.Need-unless-requires
-unless-requires c κs = search needs
-
-unless-requires-2 : tie.Need-unless-requires-2
-unless-requires-2 c κs = search needs
 
 -- the number that is judged first
 abbrev start : tie.After-unless2 → tie.Start
@@ -54,21 +42,15 @@ take-line-requires c κs =
     let p = early-passed (a .state) (now (a .line)) (length (now (a .echo))) (u .unless2 .result) (first-is u) (l .if1 .left) in
     ((p .1, line-short (now (a .line)) (p .2)), (p .0, p .2))
 
-same-length : tie.Need-same-length
-same-length c = search needs
-
-returns-2 : tie.Need-returns-2
-returns-2 c = search needs
-
 pub line-spec : {M : Type 1} → statement M
 line-spec =
     tie.close
     (tie.spec
-    within-limits-requires
-    bytes-ok-requires
-    unless-requires
-    unless-requires-2
+    (λ c κs. search needs)
+    (λ c κs. search needs)
+    (λ c κs. search needs)
+    (λ c κs. search needs)
     returns
     take-line-requires
-    same-length
-    returns-2)
+    (λ c. search needs)
+    (λ c. search needs))

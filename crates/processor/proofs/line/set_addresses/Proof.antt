@@ -3,11 +3,8 @@ use borrow.Author.Needs.{needs}
 use Rattle.processor.proofs.line.set_addresses.Statement.{statement}
 use Rattle.processor.proofs.line.set_addresses.Tie as tie
 
-count-requires : tie.Need-count-requires
-count-requires c κs = search needs
-
 returns : tie.Need-returns
 returns c = simp (c .count .ensures)
 
 pub set-addresses-spec : {M : Type 1} → statement M
-set-addresses-spec = tie.close (tie.spec count-requires returns)
+set-addresses-spec = tie.close (tie.spec (λ c κs. search needs) returns)

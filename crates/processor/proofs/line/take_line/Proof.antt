@@ -16,18 +16,6 @@ use borrow.Author.Needs.{needs}
 use Rattle.processor.proofs.line.take_line.Statement.{statement}
 use Rattle.processor.proofs.line.take_line.Tie as tie
 
-parse-requires : tie.Need-parse-requires
-parse-requires c κs = search needs
-
-load-waits-requires : tie.Need-load-waits-requires
-load-waits-requires c κs = search needs
-
-full-requires : tie.Need-full-requires
-full-requires c κs = search needs
-
-command-number-requires : tie.Need-command-number-requires
-command-number-requires c κs = search needs
-
 -- the function's entry, and the number of the line
 abbrev start : tie.After-command-number → tie.Start
 start k = let p = k .before .before .before in p .before .before .before
@@ -49,12 +37,6 @@ number-is k =
     cause-is k
     ∙ sym (k .command-number .ensures
     ∙ (λ i. numberBy (commandChecks (w .load-waits .ensures i) (f .full .ensures i) (w .before .parse .ensures i))))
-
-write-refused-requires : tie.Need-write-refused-requires
-write-refused-requires c κs = search needs
-
-same-length : tie.Need-same-length
-same-length c = search needs
 
 returns : tie.Need-returns
 unfolding lineDone
@@ -88,9 +70,6 @@ after-line-requires c κs =
           ∙ sym (cause-is k) ∙ number-is k ∙ e .if1 .left,
     )
 
-same-length-2 : tie.Need-same-length-2
-same-length-2 c = search needs
-
 returns-2 : tie.Need-returns-2
 unfolding lineDone
 returns-2 c =
@@ -105,14 +84,14 @@ pub take-line-spec : {M : Type 1} → statement M
 take-line-spec =
     tie.close
     (tie.spec
-    parse-requires
-    load-waits-requires
-    full-requires
-    command-number-requires
-    write-refused-requires
-    same-length
+    (λ c κs. search needs)
+    (λ c κs. search needs)
+    (λ c κs. search needs)
+    (λ c κs. search needs)
+    (λ c κs. search needs)
+    (λ c. search needs)
     returns
     echo-told-requires
     after-line-requires
-    same-length-2
+    (λ c. search needs)
     returns-2)

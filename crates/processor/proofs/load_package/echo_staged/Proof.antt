@@ -4,32 +4,11 @@ use borrow.Author.Needs.{needs}
 use Rattle.processor.proofs.load_package.echo_staged.Statement.{statement}
 use Rattle.processor.proofs.load_package.echo_staged.Tie as tie
 
-payload-bytes-requires : tie.Need-payload-bytes-requires
-payload-bytes-requires c κs = search needs
-
-write-package-ok-requires : tie.Need-write-package-ok-requires
-write-package-ok-requires c κs = search needs
-
-received-sum-requires : tie.Need-received-sum-requires
-received-sum-requires c κs = search needs
-
-computed-sum-requires : tie.Need-computed-sum-requires
-computed-sum-requires c κs = search needs
-
-write-package-error-requires : tie.Need-write-package-error-requires
-write-package-error-requires c κs = search needs
-
-same-length : tie.Need-same-length
-same-length c = search needs
-
 returns : tie.Need-returns
 returns c =
     let w = c .before .before in
     let t = w .before .before in
     simp (eq-eqb _ _ (t .if1 .taken), w .write-package-ok .ensures, t .before .payload-bytes .ensures .0)
-
-same-length-2 : tie.Need-same-length-2
-same-length-2 c = search needs
 
 returns-2 : tie.Need-returns-2
 returns-2 c =
@@ -49,12 +28,12 @@ pub echo-staged-spec : {M : Type 1} → statement M
 echo-staged-spec =
     tie.close
     (tie.spec
-    payload-bytes-requires
-    write-package-ok-requires
-    received-sum-requires
-    computed-sum-requires
-    write-package-error-requires
-    same-length
+    (λ c κs. search needs)
+    (λ c κs. search needs)
+    (λ c κs. search needs)
+    (λ c κs. search needs)
+    (λ c κs. search needs)
+    (λ c. search needs)
     returns
-    same-length-2
+    (λ c. search needs)
     returns-2)

@@ -9,12 +9,6 @@ use borrow.Author.Needs.{needs}
 use Rattle.processor.proofs.load_package.package.Statement.{statement}
 use Rattle.processor.proofs.load_package.package.Tie as tie
 
-package-number-requires : tie.Need-package-number-requires
-package-number-requires c κs = search needs
-
-is-staged-requires : tie.Need-is-staged-requires
-is-staged-requires c κs = search needs
-
 returns : tie.Need-returns
 unfolding packageDone
 returns c =
@@ -46,12 +40,6 @@ stage-requires c κs =
     let k = staged-is (e .before .before) in
     (k .staging-is, k .is-placeable)
 
-same-length : tie.Need-same-length
-same-length c = search needs
-
-same-length-2 : tie.Need-same-length-2
-same-length-2 c = search needs
-
 returns-2 : tie.Need-returns-2
 unfolding packageDone
 returns-2 c =
@@ -69,11 +57,11 @@ pub package-spec : {M : Type 1} → statement M
 package-spec =
     tie.close
     (tie.spec
-    package-number-requires
-    is-staged-requires
+    (λ c κs. search needs)
+    (λ c κs. search needs)
     returns
     echo-staged-requires
     stage-requires
-    same-length
-    same-length-2
+    (λ c. search needs)
+    (λ c. search needs)
     returns-2)

@@ -19,37 +19,10 @@ abbrev μ-loop : tie.MeasureT-loop
 loop-holds : tie.Need-loop-holds Inv-loop μ-loop
 loop-holds c = (omega arith, c .good .0 .1 .0 .1, table-none _)
 
-mul-sum : tie.Need-mul-sum Inv-loop μ-loop
-mul-sum c = search needs
-
-array-read-sum : tie.Need-array-read-sum Inv-loop μ-loop
-array-read-sum c = search needs
-
-mul-wide16 : tie.Need-mul-wide16 Inv-loop μ-loop
-mul-wide16 c = search needs
-
-array-read-wide16 : tie.Need-array-read-wide16 Inv-loop μ-loop
-array-read-wide16 c = search needs
-
-wide16-requires : tie.Need-wide16-requires Inv-loop μ-loop
-wide16-requires c κs = search needs
-
 add-sum : tie.Need-add-sum Inv-loop μ-loop
 add-sum c =
     let l = c .before in
     omega (arith, c .wide16 .ensures, l .before .before .pre (l .before .loop .i))
-
-mul-sums : tie.Need-mul-sums Inv-loop μ-loop
-mul-sums c = search needs
-
-array-write-sums : tie.Need-array-write-sums Inv-loop μ-loop
-array-write-sums c = search needs
-
-add-i : tie.Need-add-i Inv-loop μ-loop
-add-i c = search needs
-
-loop-less : tie.Need-loop-less Inv-loop μ-loop
-loop-less c = search needs
 
 loop-again : tie.Need-loop-again Inv-loop μ-loop
 loop-again c =
@@ -73,15 +46,15 @@ added-spec =
     Inv-loop
     μ-loop
     loop-holds
-    mul-sum
-    array-read-sum
-    mul-wide16
-    array-read-wide16
-    wide16-requires
+    (λ c. search needs)
+    (λ c. search needs)
+    (λ c. search needs)
+    (λ c. search needs)
+    (λ c κs. search needs)
     add-sum
-    mul-sums
-    array-write-sums
-    add-i
-    loop-less
+    (λ c. search needs)
+    (λ c. search needs)
+    (λ c. search needs)
+    (λ c. search needs)
     loop-again
     returns)

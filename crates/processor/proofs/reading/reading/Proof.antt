@@ -7,9 +7,6 @@ use borrow.Author.Needs.{needs}
 use Rattle.processor.proofs.reading.reading.Statement.{statement}
 use Rattle.processor.proofs.reading.reading.Tie as tie
 
-reading-number-requires : tie.Need-reading-number-requires
-reading-number-requires c κs = search needs
-
 returns : tie.Need-returns
 unfolding readingDone
 returns c = simp (sym (c .before .reading-number .ensures), ne-eqb _ _ (c .if1 .taken))
@@ -25,4 +22,4 @@ returns-2 c =
     simp (e, c .take-reading .ensures)
 
 pub reading-spec : {M : Type 1} → statement M
-reading-spec = tie.close (tie.spec reading-number-requires returns take-reading-requires returns-2)
+reading-spec = tie.close (tie.spec (λ c κs. search needs) returns take-reading-requires returns-2)

@@ -10,11 +10,8 @@ added-requires c κs k =
     let s = c .before .before in
     omega (arith, totals-below (s .args .s .interval) (state-limits (s .args .s) (s .pre .0) .interval) k)
 
-add-i : tie.Need-add-i
-add-i c = search needs
-
 returns : tie.Need-returns
 returns c = simp (c .before .added .ensures)
 
 pub take-reading-spec : {M : Type 1} → statement M
-take-reading-spec = tie.close (tie.spec added-requires add-i returns)
+take-reading-spec = tie.close (tie.spec added-requires (λ c. search needs) returns)

@@ -2,34 +2,13 @@
 use mathlib.Core.Path.{_∙_}
 use native.Mathlib.Omega.{arith}
 use denote.Ref.{now}
-use Rattle.stream.specs.Input.{waitingIn}
-use Rattle.stream.proofs.InputLaws.{first-same}
+use Rattle.buffered.specs.Input.{waitingIn}
+use Rattle.buffered.proofs.InputLaws.{first-same}
 use Rattle.stream.proofs.RecordLaws.{found-then}
 use Rattle.replay.proofs.RecordLaws.{counted-body}
 use borrow.Author.Needs.{needs}
 use Rattle.replay.proofs.records.counted.Statement.{statement}
 use Rattle.replay.proofs.records.counted.Tie as tie
-
-fill-requires : tie.Need-fill-requires
-fill-requires c κs = search needs
-
-sub-if1 : tie.Need-sub-if1
-sub-if1 c = search needs
-
-same-length : tie.Need-same-length
-same-length c = search needs
-
-returns : tie.Need-returns
-returns c = search needs
-
-add-u16-at : tie.Need-add-u16-at
-add-u16-at c = search needs
-
-u16-at-requires : tie.Need-u16-at-requires
-u16-at-requires c κs = search needs
-
-cast-whole : tie.Need-cast-whole
-cast-whole c = search needs
 
 whole-requires : tie.Need-whole-requires
 whole-requires c κs =
@@ -41,9 +20,6 @@ whole-requires c κs =
     let e = f .fill .ensures in
     let same = first-same (s .args .input) j (now (s .args .buffer)) (f .fill .last .0) (s .pre .0) (e .0) (e .1) (new .0) in
     (e .0, (omega (arith, u .u16-at .ok), (omega arith, same ∙ new .1)))
-
-same-length-2 : tie.Need-same-length-2
-same-length-2 c = search needs
 
 returns-2 : tie.Need-returns-2
 returns-2 c =
@@ -64,13 +40,13 @@ pub counted-spec : {M : Type 1} → statement M
 counted-spec =
     tie.close
     (tie.spec
-    fill-requires
-    sub-if1
-    same-length
-    returns
-    add-u16-at
-    u16-at-requires
-    cast-whole
+    (λ c κs. search needs)
+    (λ c. search needs)
+    (λ c. search needs)
+    (λ c. search needs)
+    (λ c. search needs)
+    (λ c κs. search needs)
+    (λ c. search needs)
     whole-requires
-    same-length-2
+    (λ c. search needs)
     returns-2)

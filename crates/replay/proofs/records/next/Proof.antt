@@ -3,19 +3,13 @@ use mathlib.Core.Path.{refl, sym, _∙_}
 use native.Mathlib.Omega.{arith}
 use lib.ListN.{getD}
 use denote.Ref.{now}
-use Rattle.stream.specs.Input.{waitingIn}
-use Rattle.stream.proofs.InputLaws.{length-waiting, begins-none}
+use Rattle.buffered.specs.Input.{waitingIn}
+use Rattle.buffered.proofs.InputLaws.{length-waiting, begins-none}
 use Rattle.stream.proofs.RecordLaws.{found-then}
 use Rattle.replay.proofs.RecordLaws.{own-long}
 use borrow.Author.Needs.{needs}
 use Rattle.replay.proofs.records.next.Statement.{statement}
 use Rattle.replay.proofs.records.next.Tie as tie
-
-fill-requires : tie.Need-fill-requires
-fill-requires c κs = search needs
-
-same-length : tie.Need-same-length
-same-length c = search needs
 
 returns : tie.Need-returns
 returns c =
@@ -24,21 +18,12 @@ returns c =
     let l = length-waiting (f .fill .result) (f .fill .last .0) (f .fill .ensures .0) in
     (begins-none (waitingIn (a .input) (now (a .buffer))) _ (f .fill .ensures .1) (omega (arith, l)), tt)
 
-slice-read-kind : tie.Need-slice-read-kind
-slice-read-kind c = search needs
-
-is-counted-requires : tie.Need-is-counted-requires
-is-counted-requires c κs = search needs
-
 counted-requires : tie.Need-counted-requires
 counted-requires c κs =
     let i = c .before .before .before in
     let f = i .before .before .before .before .before .before in
     let t = sym (i .is-counted .ensures) ∙ c .before .before .if2 .taken in
     (f .fill .ensures .0, (t, (omega (arith, f .fill .ensures .0), refl)))
-
-same-length-2 : tie.Need-same-length-2
-same-length-2 c = search needs
 
 returns-2 : tie.Need-returns-2
 returns-2 c =
@@ -48,24 +33,12 @@ returns-2 c =
     let e = w .counted .ensures in
     (found-then (w .counted .result) (waitingIn (a .input) (now (a .buffer))) _ _ (f .fill .ensures .1) (e .0), e .1)
 
-fixed-bytes-requires : tie.Need-fixed-bytes-requires
-fixed-bytes-requires c κs = search needs
-
-same-length-3 : tie.Need-same-length-3
-same-length-3 c = search needs
-
-returns-3 : tie.Need-returns-3
-returns-3 c = search needs
-
 whole-requires : tie.Need-whole-requires
 whole-requires c κs =
     let b = c .before .before .before in
     let f = b .before .before .before .before .before .before .before .before in
     let e = f .fill .ensures in
     (e .0, (omega (arith, b .fixed-bytes .ensures .0), (omega (arith, e .0), refl)))
-
-same-length-4 : tie.Need-same-length-4
-same-length-4 c = search needs
 
 returns-4 : tie.Need-returns-4
 returns-4 c =
@@ -86,17 +59,17 @@ pub next-spec : {M : Type 1} → statement M
 next-spec =
     tie.close
     (tie.spec
-    fill-requires
-    same-length
+    (λ c κs. search needs)
+    (λ c. search needs)
     returns
-    slice-read-kind
-    is-counted-requires
+    (λ c. search needs)
+    (λ c κs. search needs)
     counted-requires
-    same-length-2
+    (λ c. search needs)
     returns-2
-    fixed-bytes-requires
-    same-length-3
-    returns-3
+    (λ c κs. search needs)
+    (λ c. search needs)
+    (λ c. search needs)
     whole-requires
-    same-length-4
+    (λ c. search needs)
     returns-4)

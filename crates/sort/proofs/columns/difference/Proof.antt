@@ -8,12 +8,6 @@ use borrow.Author.Needs.{needs}
 use Rattle.sort.proofs.columns.difference.Statement.{statement}
 use Rattle.sort.proofs.columns.difference.Tie as tie
 
-sub-result : tie.Need-sub-result
-sub-result c = search needs
-
-sub-result-2 : tie.Need-sub-result-2
-sub-result-2 c = search needs
-
 cast-result : tie.Need-cast-result
 cast-result c = search needs
 
@@ -35,4 +29,4 @@ returns-2 c =
 pub difference-spec : {M : Type 1} → statement M
 difference-spec =
     tie.close
-    (tie.spec sub-result sub-result-2 cast-result sub-result-3 cast-result-2 returns returns-2)
+    (tie.spec (λ c. search needs) (λ c. search needs) cast-result sub-result-3 cast-result-2 returns returns-2)

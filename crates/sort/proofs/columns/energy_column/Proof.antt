@@ -9,15 +9,6 @@ use borrow.Author.Needs.{needs}
 use Rattle.sort.proofs.columns.energy_column.Statement.{statement}
 use Rattle.sort.proofs.columns.energy_column.Tie as tie
 
-add-difference : tie.Need-add-difference
-add-difference c = search needs
-
-difference-requires : tie.Need-difference-requires
-difference-requires c κs = search needs
-
-floor-div-requires : tie.Need-floor-div-requires
-floor-div-requires c κs = search needs
-
 returns : tie.Need-returns
 returns c =
     let s = c .before .before in
@@ -31,4 +22,4 @@ returns c =
 
 pub energy-column-spec : {M : Type 1} → statement M
 energy-column-spec =
-    tie.close (tie.spec add-difference difference-requires floor-div-requires returns)
+    tie.close (tie.spec (λ c. search needs) (λ c κs. search needs) (λ c κs. search needs) returns)

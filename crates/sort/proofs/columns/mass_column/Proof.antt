@@ -9,27 +9,6 @@ use borrow.Author.Needs.{needs}
 use Rattle.sort.proofs.columns.mass_column.Statement.{statement}
 use Rattle.sort.proofs.columns.mass_column.Tie as tie
 
-add-difference : tie.Need-add-difference
-add-difference c = search needs
-
-add-difference-2 : tie.Need-add-difference-2
-add-difference-2 c = search needs
-
-mul-difference : tie.Need-mul-difference
-mul-difference c = search needs
-
-add-difference-3 : tie.Need-add-difference-3
-add-difference-3 c = search needs
-
-mul-difference-2 : tie.Need-mul-difference-2
-mul-difference-2 c = search needs
-
-difference-requires : tie.Need-difference-requires
-difference-requires c κs = search needs
-
-floor-div-requires : tie.Need-floor-div-requires
-floor-div-requires c κs = search needs
-
 returns : tie.Need-returns
 returns c =
     let s = c .before .before in
@@ -45,11 +24,11 @@ pub mass-column-spec : {M : Type 1} → statement M
 mass-column-spec =
     tie.close
     (tie.spec
-    add-difference
-    add-difference-2
-    mul-difference
-    add-difference-3
-    mul-difference-2
-    difference-requires
-    floor-div-requires
+    (λ c. search needs)
+    (λ c. search needs)
+    (λ c. search needs)
+    (λ c. search needs)
+    (λ c. search needs)
+    (λ c κs. search needs)
+    (λ c κs. search needs)
     returns)

@@ -7,26 +7,8 @@ use borrow.Author.Needs.{needs}
 use Rattle.sort.proofs.sorting.event_words.Statement.{statement}
 use Rattle.sort.proofs.sorting.event_words.Tie as tie
 
-cast-t : tie.Need-cast-t
-cast-t c = search needs
-
-add-word : tie.Need-add-word
-add-word c = search needs
-
 word-requires : tie.Need-word-requires
 word-requires c κs = let s = c .before .before in omega (arith, in-range (s .args .e) (s .pre .1))
-
-word-requires-2 : tie.Need-word-requires-2
-word-requires-2 c κs = search needs
-
-gain-requires : tie.Need-gain-requires
-gain-requires c κs = search needs
-
-cast-low : tie.Need-cast-low
-cast-low c = search needs
-
-add-word-2 : tie.Need-add-word-2
-add-word-2 c = search needs
 
 word-requires-3 : tie.Need-word-requires-3
 word-requires-3 c κs =
@@ -34,9 +16,6 @@ word-requires-3 c κs =
     let w = g .before .before in
     let s = w .before .before .before in
     omega (arith, in-range (s .args .e) (s .pre .1))
-
-word-requires-4 : tie.Need-word-requires-4
-word-requires-4 c κs = search needs
 
 returns : tie.Need-returns
 unfolding eventWords
@@ -49,21 +28,12 @@ returns c =
       (c .before .word3 .ensures .1, c .word4 .ensures .1, w1 .word .ensures .1, w2 .word2 .ensures .1),
     )
 
-cast-high : tie.Need-cast-high
-cast-high c = search needs
-
-add-word-3 : tie.Need-add-word-3
-add-word-3 c = search needs
-
 word-requires-5 : tie.Need-word-requires-5
 word-requires-5 c κs =
     let g = c .before .before in
     let w = g .before .before in
     let s = w .before .before .before in
     omega (arith, in-range (s .args .e) (s .pre .1))
-
-word-requires-6 : tie.Need-word-requires-6
-word-requires-6 c κs = search needs
 
 returns-2 : tie.Need-returns-2
 unfolding eventWords
@@ -80,18 +50,18 @@ pub event-words-spec : {M : Type 1} → statement M
 event-words-spec =
     tie.close
     (tie.spec
-    cast-t
-    add-word
+    (λ c. search needs)
+    (λ c. search needs)
     word-requires
-    word-requires-2
-    gain-requires
-    cast-low
-    add-word-2
+    (λ c κs. search needs)
+    (λ c κs. search needs)
+    (λ c. search needs)
+    (λ c. search needs)
     word-requires-3
-    word-requires-4
+    (λ c κs. search needs)
     returns
-    cast-high
-    add-word-3
+    (λ c. search needs)
+    (λ c. search needs)
     word-requires-5
-    word-requires-6
+    (λ c κs. search needs)
     returns-2)

@@ -9,15 +9,6 @@ use borrow.Author.Needs.{needs}
 use Rattle.sort.proofs.sorting.in_matrix.Statement.{statement}
 use Rattle.sort.proofs.sorting.in_matrix.Tie as tie
 
-mass-column-requires : tie.Need-mass-column-requires
-mass-column-requires c κs = search needs
-
-energy-column-requires : tie.Need-energy-column-requires
-energy-column-requires c κs = search needs
-
-located-requires : tie.Need-located-requires
-located-requires c κs = search needs
-
 returns : tie.Need-returns
 unfolding inMatrix
 returns c =
@@ -31,4 +22,4 @@ returns c =
 
 pub in-matrix-spec : {M : Type 1} → statement M
 in-matrix-spec =
-    tie.close (tie.spec mass-column-requires energy-column-requires located-requires returns)
+    tie.close (tie.spec (λ c κs. search needs) (λ c κs. search needs) (λ c κs. search needs) returns)

@@ -9,15 +9,6 @@ use borrow.Author.Needs.{needs}
 use Rattle.sort.proofs.sorting.located.Statement.{statement}
 use Rattle.sort.proofs.sorting.located.Tie as tie
 
-bounded-requires : tie.Need-bounded-requires
-bounded-requires c κs = search needs
-
-enum-known-column : tie.Need-enum-known-column
-enum-known-column c = search needs
-
-enum-told : tie.Need-enum-told
-enum-told c = search needs
-
 returns : tie.Need-returns
 returns c =
     let b = c .before .before in
@@ -43,15 +34,6 @@ energy-is k =
     let s = start (found k .before) in
     bounded-back (s .args .energy) _ _ (s .fits .energy) (found k .bounded2 .ensures) (k .before .row .given .1)
 
-bounded-requires-2 : tie.Need-bounded-requires-2
-bounded-requires-2 c κs = search needs
-
-enum-known-row : tie.Need-enum-known-row
-enum-known-row c = search needs
-
-enum-told-2 : tie.Need-enum-told-2
-enum-told-2 c = search needs
-
 returns-2 : tie.Need-returns-2
 returns-2 c =
     let b = c .before .before in
@@ -73,13 +55,13 @@ pub located-spec : {M : Type 1} → statement M
 located-spec =
     tie.close
     (tie.spec
-    bounded-requires
-    enum-known-column
-    enum-told
+    (λ c κs. search needs)
+    (λ c. search needs)
+    (λ c. search needs)
     returns
-    bounded-requires-2
-    enum-known-row
-    enum-told-2
+    (λ c κs. search needs)
+    (λ c. search needs)
+    (λ c. search needs)
     returns-2
     cell-at-requires
     returns-3)

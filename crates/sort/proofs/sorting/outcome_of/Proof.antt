@@ -5,30 +5,9 @@ use borrow.Author.Needs.{needs}
 use Rattle.sort.proofs.sorting.outcome_of.Statement.{statement}
 use Rattle.sort.proofs.sorting.outcome_of.Tie as tie
 
-discards-requires : tie.Need-discards-requires
-discards-requires c κs = search needs
-
 returns : tie.Need-returns
 unfolding outcomeOf
 returns c = simp (sym (c .before .discards .ensures) ∙ c .if1 .taken)
-
-gain-requires : tie.Need-gain-requires
-gain-requires c κs = search needs
-
-event-words-requires : tie.Need-event-words-requires
-event-words-requires c κs = search needs
-
-sub-in-matrix : tie.Need-sub-in-matrix
-sub-in-matrix c = search needs
-
-part-in-matrix-start : tie.Need-part-in-matrix-start
-part-in-matrix-start c = search needs
-
-part-in-matrix-end : tie.Need-part-in-matrix-end
-part-in-matrix-end c = search needs
-
-in-matrix-requires : tie.Need-in-matrix-requires
-in-matrix-requires c κs = search needs
 
 returns-2 : tie.Need-returns-2
 unfolding outcomeOf
@@ -42,12 +21,12 @@ pub outcome-of-spec : {M : Type 1} → statement M
 outcome-of-spec =
     tie.close
     (tie.spec
-    discards-requires
+    (λ c κs. search needs)
     returns
-    gain-requires
-    event-words-requires
-    sub-in-matrix
-    part-in-matrix-start
-    part-in-matrix-end
-    in-matrix-requires
+    (λ c κs. search needs)
+    (λ c κs. search needs)
+    (λ c. search needs)
+    (λ c. search needs)
+    (λ c. search needs)
+    (λ c κs. search needs)
     returns-2)

@@ -3,11 +3,8 @@ use borrow.Author.Needs.{needs}
 use Rattle.state.proofs.interval.fresh.Statement.{statement}
 use Rattle.state.proofs.interval.fresh.Tie as tie
 
-no-counts-requires : tie.Need-no-counts-requires
-no-counts-requires c κs = search needs
-
 returns : tie.Need-returns
 returns c = simp (c .no-counts .ensures)
 
 pub fresh-spec : {M : Type 1} → statement M
-fresh-spec = tie.close (tie.spec no-counts-requires returns)
+fresh-spec = tie.close (tie.spec (λ c κs. search needs) returns)

@@ -7,14 +7,8 @@ use Rattle.state.proofs.interval.readings_within.Tie as tie
 returns : tie.Need-returns
 returns c = simp (lt-leb _ _ (c .if1 .taken))
 
-mul-all-at-most : tie.Need-mul-all-at-most
-mul-all-at-most c = search needs
-
-all-at-most-requires : tie.Need-all-at-most-requires
-all-at-most-requires c κs = search needs
-
 returns-2 : tie.Need-returns-2
 returns-2 c = simp (le-leb _ _ (c .before .before .if1 .left)) (c .all-at-most .ensures)
 
 pub readings-within-spec : {M : Type 1} → statement M
-readings-within-spec = tie.close (tie.spec returns mul-all-at-most all-at-most-requires returns-2)
+readings-within-spec = tie.close (tie.spec returns (λ c. search needs) (λ c κs. search needs) returns-2)

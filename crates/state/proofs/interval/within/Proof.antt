@@ -4,15 +4,6 @@ use borrow.Author.Needs.{needs}
 use Rattle.state.proofs.interval.within.Statement.{statement}
 use Rattle.state.proofs.interval.within.Tie as tie
 
-counts-within-requires : tie.Need-counts-within-requires
-counts-within-requires c κs = search needs
-
-slots-within-requires : tie.Need-slots-within-requires
-slots-within-requires c κs = search needs
-
-readings-within-requires : tie.Need-readings-within-requires
-readings-within-requires c κs = search needs
-
 returns : tie.Need-returns
 unfolding intervalWithin
 returns c =
@@ -20,4 +11,4 @@ returns c =
     simp (c .readings-within .ensures, sl .slots-within .ensures, sl .before .before .counts-within .ensures)
 
 pub within-spec : {M : Type 1} → statement M
-within-spec = tie.close (tie.spec counts-within-requires slots-within-requires readings-within-requires returns)
+within-spec = tie.close (tie.spec (λ c κs. search needs) (λ c κs. search needs) (λ c κs. search needs) returns)

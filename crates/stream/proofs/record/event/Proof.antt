@@ -6,21 +6,9 @@ use borrow.Author.Needs.{needs}
 use Rattle.stream.proofs.record.event.Statement.{statement}
 use Rattle.stream.proofs.record.event.Tie as tie
 
-shared-slice-read-if1 : tie.Need-shared-slice-read-if1
-shared-slice-read-if1 c = search needs
-
 returns : tie.Need-returns
 unfolding recordDone
 returns c = let n = lt-leb _ _ (c .if1 .taken) in (simp n, simp n)
-
-event-in-requires : tie.Need-event-in-requires
-event-in-requires c κs = search needs
-
-event-requires : tie.Need-event-requires
-event-requires c κs = search needs
-
-same-length : tie.Need-same-length
-same-length c = search needs
 
 returns-2 : tie.Need-returns-2
 unfolding recordDone
@@ -33,4 +21,4 @@ returns-2 c =
 pub event-spec : {M : Type 1} → statement M
 event-spec =
     tie.close
-    (tie.spec shared-slice-read-if1 returns event-in-requires event-requires same-length returns-2)
+    (tie.spec (λ c. search needs) returns (λ c κs. search needs) (λ c κs. search needs) (λ c. search needs) returns-2)

@@ -3,14 +3,8 @@ use borrow.Author.Needs.{needs}
 use Rattle.stream.proofs.record.reading.Statement.{statement}
 use Rattle.stream.proofs.record.reading.Tie as tie
 
-counts-in-requires : tie.Need-counts-in-requires
-counts-in-requires c κs = search needs
-
-reading-requires : tie.Need-reading-requires
-reading-requires c κs = search needs
-
 returns : tie.Need-returns
 returns c = cc
 
 pub reading-spec : {M : Type 1} → statement M
-reading-spec = tie.close (tie.spec counts-in-requires reading-requires returns)
+reading-spec = tie.close (tie.spec (λ c κs. search needs) (λ c κs. search needs) returns)

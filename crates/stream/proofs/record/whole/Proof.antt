@@ -3,37 +3,10 @@ use mathlib.Core.Path.{refl, _∙_}
 use native.Mathlib.Nat.{add-sub-cancel-left}
 use native.Mathlib.Omega.{arith}
 use denote.Ref.{now}
-use Rattle.stream.proofs.InputLaws.{first-same}
+use Rattle.buffered.proofs.InputLaws.{first-same}
 use borrow.Author.Needs.{needs}
 use Rattle.stream.proofs.record.whole.Statement.{statement}
 use Rattle.stream.proofs.record.whole.Tie as tie
-
-add-fill : tie.Need-add-fill
-add-fill c = search needs
-
-fill-requires : tie.Need-fill-requires
-fill-requires c κs = search needs
-
-sub-if1 : tie.Need-sub-if1
-sub-if1 c = search needs
-
-add-if1 : tie.Need-add-if1
-add-if1 c = search needs
-
-same-length : tie.Need-same-length
-same-length c = search needs
-
-returns : tie.Need-returns
-returns c = search needs
-
-add-from : tie.Need-add-from
-add-from c = search needs
-
-add-t15 : tie.Need-add-t15
-add-t15 c = search needs
-
-same-length-2 : tie.Need-same-length-2
-same-length-2 c = search needs
 
 returns-2 : tie.Need-returns-2
 returns-2 c =
@@ -52,13 +25,13 @@ pub whole-spec : {M : Type 1} → statement M
 whole-spec =
     tie.close
     (tie.spec
-    add-fill
-    fill-requires
-    sub-if1
-    add-if1
-    same-length
-    returns
-    add-from
-    add-t15
-    same-length-2
+    (λ c. search needs)
+    (λ c κs. search needs)
+    (λ c. search needs)
+    (λ c. search needs)
+    (λ c. search needs)
+    (λ c. search needs)
+    (λ c. search needs)
+    (λ c. search needs)
+    (λ c. search needs)
     returns-2)

@@ -10,32 +10,11 @@ use borrow.Author.Needs.{needs}
 use Rattle.wire.proofs.write.put_u24.Statement.{statement}
 use Rattle.wire.proofs.write.put_u24.Tie as tie
 
-cast-part : tie.Need-cast-part
-cast-part c = search needs
-
-slice-write-part : tie.Need-slice-write-part
-slice-write-part c = search needs
-
-cast-part-2 : tie.Need-cast-part-2
-cast-part-2 c = search needs
-
-add-part : tie.Need-add-part
-add-part c = search needs
-
 slice-write-part-2 : tie.Need-slice-write-part-2
 slice-write-part-2 c = simp length-set (omega arith)
 
-cast-part-3 : tie.Need-cast-part-3
-cast-part-3 c = search needs
-
-add-part-2 : tie.Need-add-part-2
-add-part-2 c = search needs
-
 slice-write-part-3 : tie.Need-slice-write-part-3
 slice-write-part-3 c = simp length-set (omega arith)
-
-same-length : tie.Need-same-length
-same-length c = search needs
 
 returns : tie.Need-returns
 returns c =
@@ -48,13 +27,13 @@ pub put-u24-spec : {M : Type 1} → statement M
 put-u24-spec =
     tie.close
     (tie.spec
-    cast-part
-    slice-write-part
-    cast-part-2
-    add-part
+    (λ c. search needs)
+    (λ c. search needs)
+    (λ c. search needs)
+    (λ c. search needs)
     slice-write-part-2
-    cast-part-3
-    add-part-2
+    (λ c. search needs)
+    (λ c. search needs)
     slice-write-part-3
-    same-length
+    (λ c. search needs)
     returns)

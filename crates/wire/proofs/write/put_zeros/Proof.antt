@@ -22,15 +22,6 @@ loop-holds c =
     let e : s .from - s .from ≡ 0 = omega arith in
     (omega arith, omega arith, rw e (put-nil _ _), refl)
 
-put-u8-requires : tie.Need-put-u8-requires Inv-loop μ-loop
-put-u8-requires c κs = search needs
-
-add-i : tie.Need-add-i Inv-loop μ-loop
-add-i c = search needs
-
-loop-less : tie.Need-loop-less Inv-loop μ-loop
-loop-less c = search needs
-
 loop-again : tie.Need-loop-again Inv-loop μ-loop
 loop-again c =
     let l = c .before .before .before .before .before in
@@ -47,9 +38,6 @@ loop-again c =
       omega arith,
     )
 
-same-length : tie.Need-same-length Inv-loop μ-loop
-same-length c = search needs
-
 returns : tie.Need-returns Inv-loop μ-loop
 returns c =
     let l = c .before in
@@ -64,9 +52,9 @@ put-zeros-spec =
     Inv-loop
     μ-loop
     loop-holds
-    put-u8-requires
-    add-i
-    loop-less
+    (λ c κs. search needs)
+    (λ c. search needs)
+    (λ c. search needs)
     loop-again
-    same-length
+    (λ c. search needs)
     returns)

@@ -1,0 +1,4 @@
+// The answers of replay, printed: a module for each thing that is printed.
+pub mod calls;
+pub mod close;
+pub mod packets;

@@ -1,0 +1,2 @@
+-- Laws of buffered input, which the programs' proofs cite too.
+pub mod InputLaws

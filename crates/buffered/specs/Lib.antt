@@ -1,0 +1,2 @@
+-- What the contracts of buffered input cite.
+pub mod Input

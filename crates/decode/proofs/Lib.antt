@@ -1,0 +1,4 @@
+pub mod Reading
+pub mod Back
+pub mod Accepted
+pub mod Damage

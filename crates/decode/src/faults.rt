@@ -1,0 +1,160 @@
+// The tests of a packet, and the number with which one is refused.
+ghost use mathlib.Core.Path.{_≡_};
+ghost use Prim.Native.Nat.{_+_, _*_, _≤_};
+ghost use lib.ListN.{length};
+ghost use Rattle.packet.specs.Layout.{packetBytes, bodyAt, codeBytes, recordBytes};
+ghost use Rattle.decode.specs.Read.{fieldsGood, headerGood, sumGood, codesGood, zerosGood, recordsGood};
+ghost use Rattle.decode.specs.Read.{unmarked, rateGood, sampleGood, beaconGood, bodyGood, readNumber};
+use crate::fields::application;
+use crate::kind::Kind;
+use crate::kind::is_kind;
+use crate::kind::kind_of;
+use causes::unless;
+use packet::applications::SAMPLE_APPLICATION;
+use packet::layout;
+use wire::read::u16_at;
+
+// The header's fields, but for the sequence count and the time.
+fn fields_good(packet: &[u8]) -> bool
+    requires { ⌜ length (now packet) ≡ packetBytes ⌝ }
+    ensures { λ r. ⌜ r ≡ fieldsGood (now (packet .entry)) ⌝ }
+{
+    (u16_at(packet, layout::APPLICATION_AT) / layout::SECONDARY_FLAG == 1)
+        & (u16_at(packet, layout::SEQUENCE_AT) / layout::SEQUENCE_COUNTS == layout::SEQUENCE_FLAGS)
+        & (u16_at(packet, layout::LENGTH_AT) == layout::LENGTH_FIELD)
+        & (packet[layout::ZERO_AT] == 0)
+        & is_kind(kind_of(application(packet)))
+}
+
+// 272 bytes with a header of a kind.
+fn header_good(packet: &[u8]) -> bool
+    ensures { λ r. ⌜ r ≡ headerGood (now (packet .entry)) ⌝ }
+{
+    if packet.len() == layout::PACKET_BYTES {
+        fields_good(packet)
+    } else {
+        false
+    }
+}
+
+// The last byte is the sum of those before it.
+fn sum_good(packet: &[u8]) -> bool
+    requires { ⌜ length (now packet) ≡ packetBytes ⌝ }
+    ensures { λ r. ⌜ r ≡ sumGood (now (packet .entry)) ⌝ }
+{
+    let sum = wire::read::byte_sum(&packet[0..layout::SUM_AT]);
+    packet[layout::SUM_AT] == (sum % 256) as u8
+}
+
+// Whether the first n codes are ones that counts have.
+fn codes_good(packet: &[u8], n: usize) -> bool
+    requires { ⌜ bodyAt + codeBytes * n ≤ length (now packet) ⌝ }
+    ensures { λ r. ⌜ r ≡ codesGood n (now (packet .entry)) ⌝ }
+{
+    let mut good = true;
+    let mut i: usize = 0;
+    while i < n {
+        good = good & rate_code::valid(u16_at(packet, layout::BODY_AT + layout::CODE_BYTES * i));
+        i += 1;
+    }
+    good
+}
+
+// Whether the n bytes from `at` on are zero.
+fn zeros_good(packet: &[u8], at: usize, n: usize) -> bool
+    requires { ⌜ at + n ≤ length (now packet) ⌝ }
+    ensures { λ r. ⌜ r ≡ zerosGood at n (now (packet .entry)) ⌝ }
+{
+    let mut good = true;
+    let mut i: usize = 0;
+    while i < n {
+        good = good & (packet[at + i] == 0);
+        i += 1;
+    }
+    good
+}
+
+// Whether each of the first n records is empty or of a box that samples have.
+fn records_good(packet: &[u8], n: usize) -> bool
+    requires { ⌜ bodyAt + recordBytes * n ≤ length (now packet) ⌝ }
+    ensures { λ r. ⌜ r ≡ recordsGood n (now (packet .entry)) ⌝ }
+{
+    let mut good = true;
+    let mut i: usize = 0;
+    while i < n {
+        good = good
+            & sample_record::record_good(wire::read::u32_at(
+                packet,
+                layout::BODY_AT + layout::RECORD_BYTES * i,
+            ));
+        i += 1;
+    }
+    good
+}
+
+// Whether the bytes behind the frame are zero.
+fn unmarked(packet: &[u8]) -> bool
+    requires { ⌜ length (now packet) ≡ packetBytes ⌝ }
+    ensures { λ r. ⌜ r ≡ unmarked (now (packet .entry)) ⌝ }
+{
+    (packet[layout::MARK_AT] == 0) & (packet[layout::LAST_AT] == 0)
+}
+
+// The body of a rate packet: its codes, LIMHI, and what has no use.
+fn rate_good(packet: &[u8]) -> bool
+    requires { ⌜ length (now packet) ≡ packetBytes ⌝ }
+    ensures { λ r. ⌜ r ≡ rateGood (now (packet .entry)) ⌝ }
+{
+    codes_good(packet, layout::RATES)
+        & (packet[layout::GAP_AT] == 0)
+        & (packet[layout::FLAGS_AT] % layout::JUNK == 0)
+        & (u16_at(packet, layout::LIMHI_AT) <= settings::SLOTS)
+        & unmarked(packet)
+}
+
+// The body of a sample packet: its p, its records, and what has no use.
+fn sample_good(packet: &[u8]) -> bool
+    requires { ⌜ length (now packet) ≡ packetBytes ⌝ }
+    ensures { λ r. ⌜ r ≡ sampleGood (now (packet .entry)) ⌝ }
+{
+    (application(packet) == SAMPLE_APPLICATION + packet[layout::MARK_AT] as u16)
+        & (packet[layout::LAST_AT] == 0)
+        & records_good(packet, layout::RECORDS)
+}
+
+// The body of a beacon packet: its codes, and what has no use.
+fn beacon_good(packet: &[u8]) -> bool
+    requires { ⌜ length (now packet) ≡ packetBytes ⌝ }
+    ensures { λ r. ⌜ r ≡ beaconGood (now (packet .entry)) ⌝ }
+{
+    codes_good(packet, layout::BEACONS)
+        & zeros_good(packet, layout::BEACON_END, layout::BEACON_UNUSED)
+        & unmarked(packet)
+}
+
+fn body_good(kind: Kind, packet: &[u8]) -> bool
+    requires { ⌜ length (now packet) ≡ packetBytes ⌝ }
+    ensures { λ r. ⌜ r ≡ bodyGood kind (now (packet .entry)) ⌝ }
+{
+    match kind {
+        Kind::Rate => rate_good(packet),
+        Kind::Sample => sample_good(packet),
+        Kind::Beacon => beacon_good(packet),
+        Kind::None => false,
+    }
+}
+
+// The number of any bytes: 0 where they are a packet without fault.
+pub fn number(packet: &[u8]) -> u8
+    ensures { λ r. ⌜ r ≡ readNumber (now (packet .entry)) ⌝ }
+{
+    if !header_good(packet) {
+        return causes::NO_HEADER;
+    }
+    let good = body_good(kind_of(application(packet)), packet);
+    unless(
+        sum_good(packet),
+        causes::PACKET_SUM,
+        unless(good, causes::BODY_FAULT, causes::CARRIED_OUT),
+    )
+}
