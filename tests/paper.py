@@ -338,13 +338,13 @@ class Packet:
     records: bytes = b""
 
 
-def has_header(data):
-    """Cause 11: "no header above (any sequence count passes)"."""
+def has_header(data, applications):
+    """Cause 11: "no header above (any sequence count passes)", with one of these application numbers."""
     if len(data) != PACKET_BYTES:
         return False
     application, frame = get_numbers(data[:4], 2)
     time = int.from_bytes(data[6:10], "big")
-    return application % 2048 in APPLICATIONS and data[:11] == packet_header(application % 2048, frame, time)
+    return application % 2048 in applications and data[:11] == packet_header(application % 2048, frame, time)
 
 
 def read_rate(data, answer):
@@ -374,7 +374,7 @@ def read_beacon(data, answer):
 
 def read_packet(data):
     """The ground reader: causes 11, 12 and 13, or the packet's fields."""
-    if not has_header(data):
+    if not has_header(data, APPLICATIONS):
         return Packet(11)
     if data != with_sum(data):
         return Packet(12)
@@ -385,7 +385,58 @@ def read_packet(data):
     return answer if read_body(data, answer) else Packet(13)
 
 
-# ---- the five calls
+# ---- listing packets and their gatherer (document 02, Point 1)
+
+LISTING = 594
+LISTING_PACKETS = 250
+LISTING_BYTES = 3 * 84
+
+
+def listing_address(i):
+    # "A call writes packet i, 0 to 249, of the table's 250, from 7000 hex + 84i"
+    return 0x7000 + 84 * i
+
+
+def listing_packet(frame, time, i, tables):
+    # "the usual header with a time that the caller gives, 14-15 the frame, 16-18 the first word's address, 19-270 84
+    # words, 271 the sum, the rest zero"; "the last has 79 words and zeros behind"
+    data = bytearray(PACKET_BYTES)
+    words = tables[LISTING_BYTES * i:LISTING_BYTES * (i + 1)]
+    parts = [packet_header(LISTING, frame, time), bytes(3), frame.to_bytes(2, "big"), listing_address(i).to_bytes(3, "big"), words]
+    data[:19 + len(words)] = b"".join(parts)
+    return with_sum(data)
+
+
+class Gatherer:
+    """"A ground gatherer puts them into a table buffer": a fresh one, with a buffer of zeros."""
+
+    def __init__(self):
+        self.tables = bytearray(TABLE_BYTES)
+        self.came = set()
+
+    def missing(self):
+        return LISTING_PACKETS - len(self.came)
+
+    def gather(self, data):
+        """Causes 11, 12, 14 and 13 in this order: "14 .., after 12 and before 13, which covers the zeros"."""
+        if not has_header(data, [LISTING]):
+            return 11
+        if data != with_sum(data):
+            return 12
+        address = int.from_bytes(data[16:19], "big")
+        places = [i for i in range(LISTING_PACKETS) if listing_address(i) == address]
+        if not places:
+            return 14
+        at = LISTING_BYTES * places[0]
+        size = len(self.tables[at:at + LISTING_BYTES])
+        if any(data[11:14]) or any(data[19 + size:271]):
+            return 13
+        self.tables[at:at + size] = data[19:19 + size]
+        self.came.add(places[0])
+        return 0
+
+
+# ---- the six calls
 
 class Closed(NamedTuple):
     """The ended frame; "the taken count, 116 boxes, 12 beacons and filled slots"; the packets."""
@@ -492,6 +543,10 @@ class Processor:
         self.frame = (self.frame + 1) % 65536
         self.begin()
         return answer
+
+    def listing(self, i, time):
+        """14, or packet i: "Listing changes nothing aboard"."""
+        return listing_packet(self.frame, time, i, self.tables) if i < LISTING_PACKETS else 14
 
     def slots(self, outcomes):
         """The 704 slots: "A zero slot is empty"."""

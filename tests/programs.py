@@ -69,6 +69,17 @@ def packet(body):
     return counted(6, body)
 
 
+def listing(i, time=60):
+    return b"\x07" + i.to_bytes(2, "big") + time.to_bytes(4, "big")
+
+
+def gather(body):
+    return counted(8, body)
+
+
+GATHERED = b"\x09"
+
+
 # ---- expected text
 
 def echo(text):
@@ -180,13 +191,13 @@ def start_and_end():
         check(f"{program}: no input", run(program, b""), [])
         first = ["event 0"] if program == "replay" else []
         check(f"{program}: silent end", run(program, event()), first)
-        for kind in (0, 7, 49, 255) + ((5, 6) if program == "minute" else ()):
+        for kind in (0, 10, 49, 255) + ((5, 6, 7, 8, 9) if program == "minute" else ()):
             check(f"{program}: kind {kind}", run(program, event() + bytes([kind]) + bytes(100)), first + ["bad record"])
-        bodies = [(1, 7), (2, 16), (4, 4)] + ([(3, 80)] if program == "minute" else [])
+        bodies = [(1, 7), (2, 16), (4, 4)] + ([(3, 80)] if program == "minute" else [(7, 6)])
         for kind, n in bodies:
             for short in (0, n - 1):
                 check(f"{program}: kind {kind}, {short} bytes", run(program, event() + bytes([kind]) + bytes(short)), first + ["bad record"])
-    for kind in (3, 5, 6):
+    for kind in (3, 5, 6, 8):
         for short in (b"", b"\0", b"\0\5", b"\0\5abcd", b"\xff\xff" + bytes(65534)):
             check(f"replay: kind {kind}, {len(short)} bytes", run("replay", bytes([kind]) + short), ["bad record"])
     check("minute: the example", run("minute", bytes.fromhex("01000500640000000400 00003C")), ["0 1 1 0 0 0"])
@@ -349,6 +360,53 @@ def fault(rate):
     return with_sum(b)
 
 
+# ---- listing packets (document 02, Point 1)
+
+WORDS = bytes(i * 7 % 251 for i in range(TABLE_BYTES))
+
+
+def listed(i, words, time=60, frame=0):
+    """Packet i: 594 is 252 hex; three zeros, the frame, the address, 84 words or, in the last, 79 and zeros."""
+    head = bytes.fromhex("0a52") + (3 << 14 | frame).to_bytes(2, "big") + bytes.fromhex("0109") + time.to_bytes(4, "big") + b"\0"
+    place = bytes(3) + frame.to_bytes(2, "big") + (0x7000 + 84 * i).to_bytes(3, "big")
+    return with_sum((head + place + words[252 * i:252 * (i + 1)]).ljust(272, b"\0"))
+
+
+def changed(data, at, value):
+    """The packet with another byte, and its sum made right again."""
+    return with_sum(data[:at] + bytes([value]) + data[at + 1:])
+
+
+def listings():
+    """Packets of the tables, of the interval's frame and the time that is given; i over 249 is none of them."""
+    stream = listing(0) + listing(249, 0x01020304) + listing(250) + listing(65535) + close() + listing(7)
+    want = ["listing 0", "out " + listed(0, WORDS).hex(), "listing 0", "out " + listed(249, WORDS, 0x01020304).hex(), "listing 14", "listing 14"]
+    after = ["listing 0", "out " + listed(7, WORDS, frame=1).hex()]
+    output = run("replay", stream, WORDS).splitlines()
+    check("replay: listings", "\n".join(output[:6] + output[-2:]) + "\n", want + after)
+    words = bytes.fromhex("c07f01")
+    stream = package(words) + line(b"load 7000 0") + listing(0) + close() + listing(0)
+    got = [x for x in run("replay", stream, WORDS).splitlines() if x.startswith("out 0a52")]
+    check("replay: what a load left aboard", "\n".join(got) + "\n",
+          ["out " + listed(0, WORDS).hex(), "out " + listed(0, words + WORDS[3:], frame=1).hex()])
+
+
+def gathers():
+    """All 250 packets, last first and each twice, then a fresh gatherer; and what is refused."""
+    packets = [listed(i, WORDS, time=i, frame=i) for i in reversed(range(250))]
+    stream = b"".join(gather(p) * 2 for p in packets) + GATHERED + GATHERED
+    want = [f"gather 0 {left}" for left in reversed(range(250)) for _ in (1, 2)]
+    check("replay: a table gathered", run("replay", stream), want + ["gathered 0 " + WORDS.hex(), "gathered 250 " + "00" * TABLE_BYTES])
+    first, last = listed(0, WORDS), listed(249, WORDS)
+    wrong = [(b"", 11), (first[:-1], 11), (first + b"\0", 11), (changed(first, 1, 0x5D), 11), (changed(first, 10, 1), 11),
+             (first[:-1] + bytes([first[-1] ^ 1]), 12), (changed(first, 18, 1), 14), (changed(changed(last, 17, 0xC2), 18, 0x08), 14),
+             (changed(changed(first, 18, 1), 11, 1), 14), (changed(first, 11, 1), 13), (changed(first, 13, 1), 13), (changed(last, 256, 1), 13),
+             (changed(last, 270, 1), 13), (changed(last, 255, 1), 0)]
+    want = [f"gather {n} {249 if n == 0 else 250}" for _, n in wrong]
+    check("replay: packets that are not gathered", run("replay", b"".join(gather(p) for p, _ in wrong)), want)
+    check("replay: a listing packet is not read", run("replay", packet(first)), ["packet 11"])
+
+
 # ---- the example that README shows
 
 def example():
@@ -479,7 +537,7 @@ def interrupted():
             check(f"{program}: interrupted, no tables.bin", printed + line, ["refused 1"])
 
 
-for case in (start_and_end, ranges, million, samples, readings, commands, zero_bytes, long_bodies, loads, packets, example, frames, pieces,
+for case in (start_and_end, ranges, million, samples, readings, commands, zero_bytes, long_bodies, loads, packets, listings, gathers, example, frames, pieces,
              pieces_of_minute, held_open, failed_reads, failed_writes, interrupted):
     case()
 print(f"{counts['passed']} passed, {counts['failed']} failed")

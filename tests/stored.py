@@ -5,7 +5,7 @@ that of limit_cases comes from the second implementation (compare.sh).
     python3 tests/stored.py --write     writes them anew
 
 No program runs here. The rules are those of paper.py, which is held to "Numbers at the edges" first. The inputs:
-- replay: its stored tables.bin and stdin, which `reference/target/release/streams 200 400 FOLDER` writes;
+- replay: its stored tables.bin and stdin, which `reference/target/release/streams 228 400 FOLDER` writes;
 - minute: the example of document 01, which is its stored stdin;
 - command_cases: command_inputs.py, which its stored stdin is compared with too;
 - sort_cases and packet_cases: those in their sources, repeated below.
@@ -33,7 +33,8 @@ def joined(*values):
 
 # ---- replay: the records and answers of the program that replays a list of calls
 
-BODY_BYTES = {1: 7, 2: 16, 4: 4}
+BODY_BYTES = {1: 7, 2: 16, 4: 4, 7: 6, 9: 0}
+COUNTED = (3, 5, 6, 8)
 
 
 def replay_records(stream):
@@ -42,7 +43,7 @@ def replay_records(stream):
     while at < len(stream):
         kind, at = stream[at], at + 1
         size = BODY_BYTES.get(kind)
-        if kind in (3, 5, 6):
+        if kind in COUNTED:
             # The length, 16 bits, stands before the bytes.
             size = int.from_bytes(stream[at:at + 2], "big") if at + 2 <= len(stream) else None
             at += 2
@@ -77,8 +78,27 @@ def packet_lines(p):
     return [lines[0], joined(lines[1], p.p), "records " + p.records.hex()]
 
 
-def answer_lines(processor, kind, body):
+def listing_lines(processor, body):
+    answer = processor.listing(int.from_bytes(body[:2], "big"), int.from_bytes(body[2:], "big"))
+    return ["listing 0", "out " + answer.hex()] if isinstance(answer, bytes) else [joined("listing", answer)]
+
+
+def ground_lines(gatherer, kind, body):
+    """A call on the ground, and what replay prints of its answer."""
+    if kind == 6:
+        return packet_lines(paper.read_packet(body))
+    if kind == 8:
+        return [joined("gather", gatherer.gather(body), gatherer.missing())]
+    lines = [joined("gathered", gatherer.missing(), gatherer.tables.hex())]
+    # A fresh gatherer begins.
+    gatherer.__init__()
+    return lines
+
+
+def answer_lines(processor, gatherer, kind, body):
     """One call, and what replay prints of its answer."""
+    if kind in (6, 8, 9):
+        return ground_lines(gatherer, kind, body)
     if kind == 1:
         return [joined("event", processor.event(event_of(body)))]
     if kind == 2:
@@ -89,8 +109,8 @@ def answer_lines(processor, kind, body):
         return close_lines(processor.close(int.from_bytes(body, "big")))
     if kind == 5:
         return [joined("package", processor.package(body), processor.echo.hex())]
-    if kind == 6:
-        return packet_lines(paper.read_packet(body))
+    if kind == 7:
+        return listing_lines(processor, body)
     return ["bad record"]
 
 
@@ -98,9 +118,9 @@ def replay_lines(tables, stream):
     """What replay prints for a tables.bin and a standard input."""
     if len(tables) != paper.TABLE_BYTES:
         return ["refused 1"]
-    processor, lines = Processor(tables), []
+    processor, gatherer, lines = Processor(tables), paper.Gatherer(), []
     for kind, body in replay_records(stream):
-        lines += answer_lines(processor, kind, body)
+        lines += answer_lines(processor, gatherer, kind, body)
     return lines
 
 

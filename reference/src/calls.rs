@@ -18,6 +18,10 @@ pub enum Call {
     Close(u32),
     Package(Vec<u8>),
     Packet(Vec<u8>),
+    /// i and the time.
+    Listing(u16, u32),
+    Gather(Vec<u8>),
+    Gathered,
 }
 
 /// Reads one record: none where the input stops before a kind byte, an error for an
@@ -34,6 +38,11 @@ pub fn read(input: &mut impl Read, form: Form) -> Result<Option<Call>> {
         (4, _) => Call::Close(u32::from_be_bytes(bytes(input)?)),
         (5, Form::Replay) => Call::Package(counted(input)?),
         (6, Form::Replay) => Call::Packet(counted(input)?),
+        (7, Form::Replay) => {
+            Call::Listing(u16::from_be_bytes(bytes(input)?), u32::from_be_bytes(bytes(input)?))
+        }
+        (8, Form::Replay) => Call::Gather(counted(input)?),
+        (9, Form::Replay) => Call::Gathered,
         _ => return Err(Error::from(ErrorKind::InvalidData)),
     };
     Ok(Some(call))
@@ -68,32 +77,38 @@ fn counted(input: &mut impl Read) -> Result<Vec<u8>> {
 
 /// Writes one record; false, and nothing written, if the form has no such record.
 pub fn write(call: &Call, form: Form, stream: &mut Vec<u8>) -> bool {
-    let minute = form == Form::Minute;
-    match call {
-        Call::Event(e) => {
+    match (call, form) {
+        (Call::Event(e), _) => {
             stream.push(1);
             for field in [e.t, e.high, e.low] {
                 stream.extend(field.to_be_bytes());
             }
             stream.push(e.flags);
         }
-        Call::Reading(counts) => {
+        (Call::Reading(counts), _) => {
             stream.push(2);
             stream.extend(counts.iter().flat_map(|count| count.to_be_bytes()));
         }
-        Call::Line(line) if minute && line.len() <= LINE_BYTES => {
+        (Call::Close(time), _) => {
+            stream.push(4);
+            stream.extend(time.to_be_bytes());
+        }
+        (Call::Line(line), Form::Minute) if line.len() <= LINE_BYTES => {
             stream.push(3);
             stream.extend(line);
             stream.resize(stream.len() + LINE_BYTES - line.len(), 0);
         }
-        Call::Close(time) => {
-            stream.push(4);
+        (_, Form::Minute) => return false,
+        (Call::Line(body), _) => write_counted(3, body, stream),
+        (Call::Package(body), _) => write_counted(5, body, stream),
+        (Call::Packet(body), _) => write_counted(6, body, stream),
+        (Call::Listing(i, time), _) => {
+            stream.push(7);
+            stream.extend(i.to_be_bytes());
             stream.extend(time.to_be_bytes());
         }
-        Call::Line(body) if !minute => write_counted(3, body, stream),
-        Call::Package(body) if !minute => write_counted(5, body, stream),
-        Call::Packet(body) if !minute => write_counted(6, body, stream),
-        _ => return false,
+        (Call::Gather(body), _) => write_counted(8, body, stream),
+        (Call::Gathered, _) => stream.push(9),
     }
     true
 }

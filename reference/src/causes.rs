@@ -1,4 +1,4 @@
-//! Document 01, "Causes and their numbers".
+//! Document 01, "Causes and their numbers", and document 02's further ones.
 
 /// The number a call answers with.
 pub type Number = u8;
@@ -30,3 +30,5 @@ pub const HEADER: Number = 11;
 pub const PACKET_SUM: Number = 12;
 /// A packet whose body has a fault.
 pub const BODY: Number = 13;
+/// No such listing packet: i over 249, or an address that is none of the 250; before 13.
+pub const LISTING_ADDRESS: Number = 14;

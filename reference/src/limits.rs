@@ -1,10 +1,10 @@
-//! Document 01, "State limits" and cause 1: the five calls over a state that anyone may
+//! Document 01, "State limits" and cause 1: the processor calls over a state that anyone may
 //! hand in and over buffers of any length. What no limit refuses goes on to `processor`.
 
 use crate::causes::*;
 use crate::commands::*;
 use crate::loads::*;
-use crate::packets::OUTPUT_BYTES;
+use crate::packets::{OUTPUT_BYTES, PACKET_BYTES};
 use crate::processor::Processor;
 use crate::samples::*;
 use crate::sorting::*;
@@ -190,6 +190,13 @@ pub fn close(
     }
 }
 
+pub fn listing(s: &State, i: u16, time: u32, tables: &[u8], out: &mut [u8]) -> Number {
+    match s.judge(&[(tables.len(), TABLE_BYTES), (out.len(), PACKET_BYTES)]) {
+        Ok(p) => p.listing(i, time, tables, out),
+        Err(number) => number,
+    }
+}
+
 #[cfg(test)]
 mod tests {
     use super::*;
@@ -249,5 +256,8 @@ mod tests {
         assert_eq!(reading(&full, &[1; 8]), BUFFER);
         assert_eq!(line(&State::fresh(), b"\t", &mut [0; 127]), BUFFER);
         assert_eq!(line(&State::fresh(), b"\t", &mut [0; 128]), LINE);
+        assert_eq!(listing(&full, 250, 0, &[0; TABLE_BYTES], &mut [0; 272]), BUFFER);
+        full.taken -= 1;
+        assert_eq!(listing(&full, 250, 0, &[0; TABLE_BYTES], &mut [0; 272]), LISTING_ADDRESS);
     }
 }

@@ -18,16 +18,23 @@ pub fn packet_sum(packet: &[u8]) -> u8 {
     packet[..271].iter().fold(0, |sum, byte| sum.wrapping_add(*byte))
 }
 
-/// Writes one packet: the header, `body`'s bytes, the frame number, the sum.
-fn write(packet: &mut [u8], number: u16, time: u32, frame: u16, body: impl FnOnce(&mut [u8])) {
+/// Writes one packet: the header, `body`'s bytes, the sum.
+pub fn write(packet: &mut [u8], number: u16, time: u32, frame: u16, body: impl FnOnce(&mut [u8])) {
     packet.fill(0);
     packet[0..2].copy_from_slice(&(1 << 11 | number).to_be_bytes()); // version 0, type 0, secondary flag 1
     packet[2..4].copy_from_slice(&((3 << 14) | (frame % 16_384)).to_be_bytes()); // sequence flags 3
     packet[4..6].copy_from_slice(&265u16.to_be_bytes());
     packet[6..10].copy_from_slice(&time.to_be_bytes()); // and byte 10 is zero
     body(packet);
-    packet[267..269].copy_from_slice(&frame.to_be_bytes());
     packet[271] = packet_sum(packet);
+}
+
+/// Writes one of close's packets, which have the frame number in bytes 267-268.
+fn write_framed(packet: &mut [u8], number: u16, time: u32, frame: u16, body: impl FnOnce(&mut [u8])) {
+    write(packet, number, time, frame, |packet| {
+        body(packet);
+        packet[267..269].copy_from_slice(&frame.to_be_bytes());
+    });
 }
 
 /// Writes the codes of `counts` one after the other.
@@ -46,7 +53,7 @@ pub fn write_rate(
     settings: &Settings,
     table_sum: u32,
 ) {
-    write(packet, RATE, time, frame, |packet| {
+    write_framed(packet, RATE, time, frame, |packet| {
         write_codes(&mut packet[11..27], totals);
         write_codes(&mut packet[27..259], &counts.boxes[1..]);
         packet[260] = settings.hvstep;
@@ -61,7 +68,7 @@ pub fn write_rate(
 
 /// Packet p, 0 to 10, with slots 64p to 64p + 63.
 pub fn write_sample(packet: &mut [u8], time: u32, frame: u16, p: usize, slots: &Slots) {
-    write(packet, FIRST_SAMPLE + p as u16, time, frame, |packet| {
+    write_framed(packet, FIRST_SAMPLE + p as u16, time, frame, |packet| {
         let records = packet[11..267].chunks_exact_mut(4);
         for (four, slot) in records.zip(&slots[64 * p..64 * p + 64]) {
             four.copy_from_slice(&slot.to_be_bytes());
@@ -71,7 +78,7 @@ pub fn write_sample(packet: &mut [u8], time: u32, frame: u16, p: usize, slots: &
 }
 
 pub fn write_beacon(packet: &mut [u8], time: u32, frame: u16, counts: &Counts) {
-    write(packet, BEACON, time, frame, |packet| {
+    write_framed(packet, BEACON, time, frame, |packet| {
         write_codes(&mut packet[11..35], &counts.beacons[1..]);
     });
 }

@@ -1,8 +1,9 @@
-//! The five processor calls of document 01 over one state. Each answers with a number,
-//! 0 when it was carried out; the buffers are lent to each call.
+//! The processor calls over one state: document 01's five, and document 02's listing. Each
+//! answers with a number, 0 when it was carried out; the buffers are lent to each call.
 
 use crate::causes::*;
 use crate::commands::*;
+use crate::listing::*;
 use crate::loads::*;
 use crate::packets::*;
 use crate::samples::*;
@@ -204,6 +205,19 @@ impl Processor {
             ..Processor::FRESH
         };
         closed
+    }
+
+    /// Writes listing packet i of the tables (document 02, Point 1); nothing aboard changes.
+    pub fn listing(&self, i: u16, time: u32, tables: &[u8], out: &mut [u8]) -> Number {
+        let (Ok(tables), PACKET_BYTES) = (<&Tables>::try_from(tables), out.len()) else {
+            return BUFFER;
+        };
+        let i = i as usize;
+        if i >= LISTING_PACKETS {
+            return LISTING_ADDRESS;
+        }
+        write_listing(out, time, self.frame, i, tables);
+        DONE
     }
 
     /// Rate, samples 0 to 10, beacon.
@@ -451,6 +465,23 @@ mod tests {
     }
 
     #[test]
+    fn listing_writes_packets_0_to_249_and_changes_nothing() {
+        let mut station = station([8, 0, 0]);
+        station.event(&STOP);
+        station.processor.frame = 0x4002;
+        let before = station.clone();
+        for (i, number) in [(0, DONE), (249, DONE), (250, LISTING_ADDRESS), (65_535, LISTING_ADDRESS)] {
+            assert_eq!(station.listing(i, 60), number);
+        }
+        // Packet 249 was the last one written: from C1B4 on.
+        assert_eq!(station.listed[..6], [0x0A, 0x52, 0xC0, 0x02, 0x01, 0x09]);
+        assert_eq!(station.listed[6..19], [0, 0, 0, 60, 0, 0, 0, 0, 0x40, 0x02, 0, 0xC1, 0xB4]);
+        assert_eq!((&station.tables, &station.slots), (&before.tables, &before.slots));
+        let state = |station: &Station| format!("{:?}", station.processor);
+        assert_eq!(state(&station), state(&before));
+    }
+
+    #[test]
     fn buffers_of_another_length() {
         let mut s = station([8, 0, 0]);
         let p = &mut s.processor;
@@ -459,6 +490,8 @@ mod tests {
         assert_eq!(p.line(&[0; 81], &mut s.echo[1..]), BUFFER);
         assert_eq!(p.package(&[], &mut s.staging[1..], &mut s.echo), BUFFER);
         assert_eq!(p.package(&[], &mut s.staging, &mut s.echo[1..]), BUFFER);
+        assert_eq!(p.listing(250, 0, &s.tables[1..], &mut s.listed), BUFFER);
+        assert_eq!(p.listing(250, 0, &s.tables, &mut s.listed[1..]), BUFFER);
         let closed = p.close(0, &mut s.tables, &s.staging, &mut s.slots, &mut s.output[1..]);
         assert_eq!((closed.number, closed.taken, closed.filled), (BUFFER, 0, 0));
     }

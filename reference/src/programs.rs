@@ -4,7 +4,7 @@ use std::fs::File;
 use std::io::{stdin, stdout, BufReader, BufWriter, Read, Result, Write};
 
 use crate::calls::{read, Call, Form};
-use crate::causes::DONE;
+use crate::causes::{Number, DONE};
 use crate::commands::Settings;
 use crate::packets::PACKET_BYTES;
 use crate::processor::Closed;
@@ -67,7 +67,7 @@ fn minute(station: &mut Station, call: Call, out: &mut impl Write) -> Result<()>
             }
             closed.number
         }
-        Call::Package(_) | Call::Packet(_) => DONE, // no records of minute
+        _ => DONE, // no record of minute
     };
     if number != DONE {
         writeln!(out, "refused {number}")?;
@@ -94,7 +94,36 @@ fn replay(station: &mut Station, call: Call, out: &mut impl Write) -> Result<()>
             print_closed(out, frame, &closed, &station.output)
         }
         Call::Packet(packet) => print_packet(out, &packet),
+        Call::Listing(i, time) => {
+            let number = station.listing(i, time);
+            print_written(out, "listing", number, &station.listed)
+        }
+        Call::Gather(packet) => {
+            let number = station.gather(&packet);
+            writeln!(out, "gather {number} {}", station.gatherer.missing())
+        }
+        Call::Gathered => {
+            write!(out, "gathered {} ", station.gatherer.missing())?;
+            digits(out, &station.gathered)?;
+            station.gather_anew();
+            Ok(())
+        }
     }
+}
+
+/// A call's name and number, and where this is 0 the packet it wrote.
+fn print_written(out: &mut impl Write, name: &str, number: Number, packet: &[u8]) -> Result<()> {
+    writeln!(out, "{name} {number}")?;
+    if number == DONE {
+        print_out(out, packet)?;
+    }
+    Ok(())
+}
+
+/// A packet that was written.
+fn print_out(out: &mut impl Write, packet: &[u8]) -> Result<()> {
+    write!(out, "out ")?;
+    digits(out, packet)
 }
 
 fn print_closed(out: &mut impl Write, frame: u16, closed: &Closed, output: &[u8]) -> Result<()> {
@@ -104,11 +133,7 @@ fn print_closed(out: &mut impl Write, frame: u16, closed: &Closed, output: &[u8]
     writeln!(out, "close 0 {frame} {} {}", closed.taken, closed.filled)?;
     numbers(out, "boxes", &closed.counts.boxes[1..])?;
     numbers(out, "beacons", &closed.counts.beacons[1..])?;
-    for packet in output.chunks_exact(PACKET_BYTES) {
-        write!(out, "out ")?;
-        digits(out, packet)?;
-    }
-    Ok(())
+    output.chunks_exact(PACKET_BYTES).try_for_each(|packet| print_out(out, packet))
 }
 
 fn print_packet(out: &mut impl Write, packet: &[u8]) -> Result<()> {

@@ -23,14 +23,8 @@ pub enum Body<'a> {
 }
 
 pub fn read(packet: &[u8]) -> Result<Packet<'_>, Number> {
-    if packet.len() != PACKET_BYTES {
-        return Err(HEADER);
-    }
-    let application = header(packet).ok_or(HEADER)?;
-    if packet[271] != packet_sum(packet) {
-        return Err(PACKET_SUM);
-    }
-    let body = match application {
+    let known = |number| matches!(number, RATE | FIRST_SAMPLE..=LAST_SAMPLE | BEACON);
+    let body = match application(packet, known)? {
         RATE => rate(packet),
         BEACON => beacon(packet),
         sample_number => sample(packet, sample_number),
@@ -43,17 +37,25 @@ pub fn read(packet: &[u8]) -> Result<Packet<'_>, Number> {
     })
 }
 
-/// The application number, if the eleven header bytes are some packet's above;
-/// any sequence count and any time pass.
-fn header(packet: &[u8]) -> Option<u16> {
+/// The application number, one of those `known`; 11 for another packet or header, then 12.
+/// Any sequence count and any time pass.
+pub fn application(packet: &[u8], known: impl Fn(u16) -> bool) -> Result<u16, Number> {
+    if packet.len() != PACKET_BYTES {
+        return Err(HEADER);
+    }
     let first = two_bytes(packet, 0);
-    let application = first % 2_048;
-    let known = matches!(application, RATE | FIRST_SAMPLE..=LAST_SAMPLE | BEACON);
+    let number = first % 2_048;
     let right = first >> 11 == 1 // version 0, type 0, secondary flag 1
         && packet[2] >> 6 == 3
         && two_bytes(packet, 4) == 265
         && packet[10] == 0;
-    (known && right).then_some(application)
+    if !right || !known(number) {
+        return Err(HEADER);
+    }
+    if packet[271] != packet_sum(packet) {
+        return Err(PACKET_SUM);
+    }
+    Ok(number)
 }
 
 fn rate(packet: &[u8]) -> Option<Body<'_>> {
@@ -73,7 +75,7 @@ fn rate(packet: &[u8]) -> Option<Body<'_>> {
             toferror: packet[261] & 32 != 0,
             junk: packet[261] & 16 != 0,
         },
-        table_sum: (packet[264] as u32) << 16 | two_bytes(packet, 265) as u32,
+        table_sum: three_bytes(packet, 264),
     })
 }
 
@@ -106,6 +108,10 @@ fn rates<const N: usize>(packet: &[u8], from: usize) -> Option<[u32; N]> {
 
 fn two_bytes(packet: &[u8], at: usize) -> u16 {
     u16::from_be_bytes([packet[at], packet[at + 1]])
+}
+
+pub fn three_bytes(packet: &[u8], at: usize) -> u32 {
+    (packet[at] as u32) << 16 | two_bytes(packet, at + 1) as u32
 }
 
 #[cfg(test)]
@@ -181,6 +187,7 @@ mod tests {
             (0, 0x1A), // type 1
             (0, 0x02), // secondary flag 0
             (1, 0x5C), // application number 604
+            (1, 0x52), // 594, a listing packet
             (1, 0x69), // 617
             (1, 0x71), // 625
             (2, 0x80), // sequence flags 2

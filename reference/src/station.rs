@@ -1,11 +1,12 @@
-//! A processor with the buffers that the programs lend it, the same ones throughout:
-//! tables as read, all others zero at first.
+//! A processor, and a gatherer on the ground, with the buffers that the programs lend them,
+//! the same ones throughout: tables as read, all others zero at first.
 
 use crate::causes::Number;
 use crate::commands::ECHO_BYTES;
+use crate::gatherer::Gatherer;
 use crate::judged;
 use crate::loads::STAGING_BYTES;
-use crate::packets::OUTPUT_BYTES;
+use crate::packets::{OUTPUT_BYTES, PACKET_BYTES};
 use crate::processor::{Closed, Processor};
 use crate::samples::SLOTS;
 use crate::sorting::Event;
@@ -19,6 +20,11 @@ pub struct Station {
     pub slots: Vec<u32>,
     pub echo: [u8; ECHO_BYTES],
     pub output: Vec<u8>,
+    /// The listing packet written last.
+    pub listed: [u8; PACKET_BYTES],
+    pub gatherer: Gatherer,
+    /// The gatherer's table buffer.
+    pub gathered: Vec<u8>,
     /// Whether an event's call also judges the limits of a state that goes by value.
     pub judged: bool,
 }
@@ -33,6 +39,9 @@ impl Station {
             slots: vec![0; SLOTS],
             echo: [0; ECHO_BYTES],
             output: vec![0; OUTPUT_BYTES],
+            listed: [0; PACKET_BYTES],
+            gatherer: Gatherer::FRESH,
+            gathered: vec![0; TABLE_BYTES],
             judged: false,
         })
     }
@@ -62,5 +71,19 @@ impl Station {
     pub fn close(&mut self, time: u32) -> Closed {
         let Station { processor, tables, staging, slots, output, .. } = self;
         processor.close(time, tables, staging, slots, output)
+    }
+
+    pub fn listing(&mut self, i: u16, time: u32) -> Number {
+        self.processor.listing(i, time, &self.tables, &mut self.listed)
+    }
+
+    pub fn gather(&mut self, packet: &[u8]) -> Number {
+        self.gatherer.gather(packet, &mut self.gathered)
+    }
+
+    /// Starts a fresh gatherer with a buffer of zeros.
+    pub fn gather_anew(&mut self) {
+        self.gatherer = Gatherer::FRESH;
+        self.gathered.fill(0);
     }
 }

@@ -59,13 +59,37 @@ fn a_line_of_minute_ends_before_its_first_zero_byte() {
 
 #[test]
 fn bad_records() {
-    for stream in [&[0][..], &[5], &[6], &[7], &[255], &[1, 0, 0, 0, 0, 0, 0], &[2], &[3], &[4, 0]] {
+    for stream in [
+        &[0][..],
+        &[5],
+        &[6],
+        &[7, 0, 0, 0, 0, 0, 0],
+        &[8, 0, 0],
+        &[9],
+        &[255],
+        &[1, 0, 0, 0, 0, 0, 0],
+        &[2],
+        &[3],
+        &[4, 0],
+    ] {
         let before = [&CLOSE[..], stream].concat();
         assert_eq!(run(Form::Minute, &before), "0 0 0 0 0 0\nbad record\n", "{stream:?}");
     }
-    for stream in
-        [&[0][..], &[7], &[1], &[3], &[3, 0], &[3, 0, 1], &[5, 0], &[5, 0, 2, 0], &[6, 1, 16, 0]]
-    {
+    for stream in [
+        &[0][..],
+        &[10],
+        &[1],
+        &[3],
+        &[3, 0],
+        &[3, 0, 1],
+        &[5, 0],
+        &[5, 0, 2, 0],
+        &[6, 1, 16, 0],
+        &[7],
+        &[7, 0, 0, 0, 0, 0],
+        &[8, 0],
+        &[8, 0, 1],
+    ] {
         assert_eq!(run(Form::Replay, stream), "bad record\n", "{stream:?}");
     }
     assert_eq!(run(Form::Replay, &[]), "");
@@ -131,4 +155,28 @@ fn replay_prints_a_close_and_its_packets_read_back() {
     assert_eq!(read(&packets[1]), format!("packet 0\nsample 0 60 0 0\nrecords {records}\n"));
     assert_eq!(read(&packets[12]), format!("packet 0\nbeacon 0 60 0\nrates{}\n", " 0".repeat(12)));
     assert_eq!(run(Form::Replay, &[6, 0, 0]), "packet 11\n");
+}
+
+#[test]
+fn replay_prints_listing_packets_and_what_is_gathered() {
+    // Words of zeros but the second one of packet 249, at C1B5.
+    let mut tables = vec![0; TABLE_BYTES];
+    let at = 3 * (0xC1B5 - 0x7000);
+    tables[at..at + 3].copy_from_slice(&[1, 2, 3]);
+    let mut packet = vec![0x0A, 0x52, 0xC0, 0, 1, 9, 0, 0, 0, 0x3C, 0, 0, 0, 0, 0, 0, 0, 0xC1, 0xB4];
+    packet.extend([0, 0, 0, 1, 2, 3]);
+    packet.resize(271, 0);
+    // 0A + 52 + C0 + 1 + 9 + 3C + C1 + B4 + 1 + 2 + 3 = 10 + 82 + 192 + 1 + 9 + 60 + 193 + 180 + 6
+    // = 733 = 2 x 256 + 221.
+    packet.push(221);
+    let gather = [&[8, 1, 16], &packet[..]].concat();
+    let listing = |i: u8| [7, 0, i, 0, 0, 0, 0x3C];
+    let stream = [&listing(249)[..], &listing(250), &gather, &gather, &[8, 0, 0, 9, 9]].concat();
+    let expected = [
+        format!("listing 0\nout {}\n", digits(&packet, 272)),
+        "listing 14\ngather 0 249\ngather 0 249\ngather 11 249\n".to_string(),
+        format!("gathered 249 {}\n", digits(&tables, TABLE_BYTES)),
+        format!("gathered 250 {}\n", digits(&[], TABLE_BYTES)),
+    ];
+    assert_eq!(run_on(Form::Replay, tables, &stream), expected.concat());
 }

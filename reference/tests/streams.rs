@@ -1,10 +1,12 @@
 //! What must hold of every generated stream: the box balances and the sample rule, each
-//! computed from the whole list of an interval's events; and that all causes occur.
+//! computed from the whole list of an interval's events; what a gatherer says, from the whole
+//! list of packets given to it; and that all causes occur.
 
 use std::collections::BTreeSet;
 
 use reference::calls::{read, Call, Form};
 use reference::generate::{stories, Stream};
+use reference::listing::{first_address, listed_bytes};
 use reference::programs::program;
 use reference::reader;
 use reference::samples::SLOTS;
@@ -15,6 +17,27 @@ fn stream(seed: u64, calls: usize, form: Form) -> Stream {
     let mut stream = Stream::new(seed, form);
     stream.tell(calls);
     stream
+}
+
+/// Carries out a stream's calls in order; those that `own` takes over, and answers true for,
+/// by `own` alone.
+fn carried_out(seed: u64, mut own: impl FnMut(&mut Station, &Call) -> bool) {
+    let stream = stream(seed, 5_000, Form::Replay);
+    let mut station = Station::new(stream.tables).unwrap();
+    let mut input = &stream.bytes[..];
+    while let Ok(Some(call)) = read(&mut input, Form::Replay) {
+        if own(&mut station, &call) {
+            continue;
+        }
+        match call {
+            Call::Event(event) => drop(station.event(&event)),
+            Call::Reading(counts) => drop(station.reading(&counts)),
+            Call::Line(line) => drop(station.line(&line)),
+            Call::Package(package) => drop(station.package(&package)),
+            Call::Close(time) => drop(station.close(time)),
+            _ => {}
+        }
+    }
 }
 
 /// The sample rule said of the whole list, not step by step.
@@ -61,24 +84,61 @@ fn check_close(station: &mut Station, events: &[Event], time: u32) {
 #[test]
 fn balances_and_samples_of_every_interval() {
     for seed in 0..12 {
-        let stream = stream(seed, 5_000, Form::Replay);
-        let mut station = Station::new(stream.tables).unwrap();
         let mut events = Vec::new();
-        let mut input = &stream.bytes[..];
-        while let Ok(Some(call)) = read(&mut input, Form::Replay) {
+        carried_out(seed, |station, call| {
             match call {
-                Call::Event(event) if station.event(&event) == 0 => events.push(event),
-                Call::Event(_) | Call::Packet(_) => {}
-                Call::Reading(counts) => drop(station.reading(&counts)),
-                Call::Line(line) => drop(station.line(&line)),
-                Call::Package(package) => drop(station.package(&package)),
+                Call::Event(event) if station.event(event) == 0 => events.push(*event),
+                Call::Event(_) => {}
                 Call::Close(time) => {
-                    check_close(&mut station, &events, time);
+                    check_close(station, &events, *time);
                     events.clear();
                 }
+                _ => return false,
             }
+            true
+        });
+    }
+}
+
+/// The gatherer's buffer and how many are missing, from all packets it accepted.
+fn check_gathered(station: &Station, accepted: &[Vec<u8>]) {
+    let from = |i: usize| {
+        let address = first_address(i) as u32;
+        accepted.iter().rfind(|packet| packet[16..19] == address.to_be_bytes()[1..])
+    };
+    let last: Vec<_> = (0..250).map(from).collect();
+    assert_eq!(station.gatherer.missing(), last.iter().filter(|packet| packet.is_none()).count());
+    for (i, packet) in last.iter().enumerate() {
+        let words = &station.gathered[listed_bytes(i)];
+        match packet {
+            Some(packet) => assert_eq!(*words, packet[19..19 + words.len()]),
+            None => assert!(words.iter().all(|byte| *byte == 0)),
         }
     }
+}
+
+#[test]
+fn the_gatherer_holds_what_it_accepted() {
+    let mut tables_gathered = 0;
+    for seed in 0..12 {
+        let (mut accepted, mut records) = (Vec::new(), 0);
+        carried_out(seed, |station, call| {
+            match call {
+                Call::Gather(packet) if station.gather(packet) == 0 => accepted.push(packet.clone()),
+                Call::Gathered => {
+                    check_gathered(station, &accepted);
+                    tables_gathered += (station.gathered == station.tables) as usize;
+                    station.gather_anew();
+                    accepted.clear();
+                    records += 1;
+                }
+                _ => return false,
+            }
+            true
+        });
+        assert!(records <= 3, "each prints the whole buffer");
+    }
+    assert!(tables_gathered > 0);
 }
 
 #[test]
@@ -92,7 +152,9 @@ fn every_cause_of_a_short_stream_occurs() {
         for line in String::from_utf8(out).unwrap().lines() {
             let mut words = line.split(' ').map(str::to_string);
             let kind = words.next().unwrap();
-            if ["event", "reading", "line", "package", "packet"].contains(&kind.as_str()) {
+            if ["event", "reading", "line", "package", "packet", "listing", "gather"]
+                .contains(&kind.as_str())
+            {
                 seen.insert((kind, words.next().unwrap().parse::<u8>().unwrap()));
             }
         }
@@ -107,6 +169,8 @@ fn every_cause_of_a_short_stream_occurs() {
     all("line", &[0, 4, 5, 6, 7]);
     all("package", &[0, 6, 8, 9, 10]);
     all("packet", &[0, 11, 12, 13]);
+    all("listing", &[0, 14]);
+    all("gather", &[0, 11, 12, 13, 14]);
 }
 
 #[test]

@@ -1,7 +1,7 @@
 // The answers to an event, a reading, a line and a package, printed.
 
 // The number alone.
-fn print_number(text: &mut [u8], at: &mut usize, number: u8) {
+pub(crate) fn print_number(text: &mut [u8], at: &mut usize, number: u8) {
     buffered::text::number(text, at, number as u64);
     buffered::text::line_end(text, at);
 }
@@ -16,20 +16,20 @@ pub fn print_reading(text: &mut [u8], at: &mut usize, number: u8) {
     print_number(text, at, number);
 }
 
-// The number and the whole echo buffer.
-fn print_echo(text: &mut [u8], at: &mut usize, number: u8, echo: &[u8]) {
-    buffered::text::number(text, at, number as u64);
+// A number and a whole buffer.
+pub(crate) fn print_buffer(text: &mut [u8], at: &mut usize, number: u64, buffer: &[u8]) {
+    buffered::text::number(text, at, number);
     buffered::text::byte(text, at, b' ');
-    buffered::text::hex(text, at, echo);
+    buffered::text::hex(text, at, buffer);
     buffered::text::line_end(text, at);
 }
 
 pub fn print_line(text: &mut [u8], at: &mut usize, number: u8, echo: &[u8]) {
     buffered::text::bytes(text, at, b"line");
-    print_echo(text, at, number, echo);
+    print_buffer(text, at, number as u64, echo);
 }
 
 pub fn print_package(text: &mut [u8], at: &mut usize, number: u8, echo: &[u8]) {
     buffered::text::bytes(text, at, b"package");
-    print_echo(text, at, number, echo);
+    print_buffer(text, at, number as u64, echo);
 }

@@ -12,7 +12,7 @@ fn print_counts(text: &mut [u8], at: &mut usize, counts: Counts) {
     buffered::text::line_end(text, at);
 }
 
-fn print_out(text: &mut [u8], at: &mut usize, packet: &[u8]) {
+pub(crate) fn print_out(text: &mut [u8], at: &mut usize, packet: &[u8]) {
     buffered::text::bytes(text, at, b"out ");
     buffered::text::hex(text, at, packet);
     buffered::text::line_end(text, at);

@@ -1,4 +1,5 @@
 // The answers of replay, printed: a module for each thing that is printed.
 pub mod calls;
 pub mod close;
+pub mod listing;
 pub mod packets;

@@ -57,3 +57,7 @@ packetSum = 12
 -- "packet body with a fault listed below"
 abbrev pub bodyFault : ℕ
 bodyFault = 13
+
+-- document 02, Point 1: "14 when i, or a listing packet's address, is none of these"
+abbrev pub notListed : ℕ
+notListed = 14

@@ -44,6 +44,9 @@ pub const PACKET_SUM: u8 = 12;
 // A packet's body has a fault.
 pub const BODY_FAULT: u8 = 13;
 
+// A listing's i, or a listing packet's address, is none of the 250.
+pub const NOT_LISTED: u8 = 14;
+
 // One test of a call: its cause where it fails, and otherwise what the tests behind it say.
 pub fn unless(passes: bool, cause: u8, rest: u8) -> u8
     ensures { λ r. ⌜ r ≡ cond passes rest cause ⌝ }

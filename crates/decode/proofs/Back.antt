@@ -26,7 +26,7 @@ use Rattle.packet.proofs.Written.{length-header, length-summand, length-envelop
 pub behind : (a b : List ℕ) (n k : ℕ) → length a ≡ n → getD (a ++ b) (n + k) 0 ≡ getD b k 0
 behind a b n k h = rw (← h) (getD-append-add a b k 0)
 
-within : (a b : List ℕ) (k : ℕ) → k < length a → getD (a ++ b) k 0 ≡ getD a k 0
+pub within : (a b : List ℕ) (k : ℕ) → k < length a → getD (a ++ b) k 0 ≡ getD a k 0
 within a b k h = List·getD-append a b 0 k h
 
 -- two tests that pass
@@ -80,15 +80,19 @@ module _ (a q t : ℕ) (inner : List ℕ) (li : length inner ≡ innerBytes) whe
     pub application-back : applicationOf E ≡ a
     application-back = ap (λ (n : ℕ). n % secondaryFlag) application-word ∙ omega arith
 
-    pub header-back : isKind (kindOf a) ≡ true → headerGood E ≡ true
-    unfolding headerGood fieldsGood
-    header-back k =
-        both (eq-eqb _ _ (length-enveloped a q t inner li))
-        (both (both (both (both (eq-eqb _ _ (ap (λ (n : ℕ). n / secondaryFlag) application-word ∙ omega arith))
+    pub fields-back : fieldsGood E ≡ true
+    unfolding fieldsGood
+    fields-back =
+        both (both (both (eq-eqb _ _ (ap (λ (n : ℕ). n / secondaryFlag) application-word ∙ omega arith))
         (eq-eqb _ _ (ap (λ (n : ℕ). n / sequenceCounts) sequence-word ∙ omega arith)))
         (eq-eqb _ _ length-word))
-        (eq-eqb _ _ zero-back))
-        (ap (λ (n : ℕ). isKind (kindOf n)) application-back ∙ k))
+        (eq-eqb _ _ zero-back)
+
+    pub header-back : isKind (kindOf a) ≡ true → headerGood E ≡ true
+    unfolding headerGood
+    header-back k =
+        both (both (eq-eqb _ _ (length-enveloped a q t inner li)) fields-back)
+        (ap (λ (n : ℕ). isKind (kindOf n)) application-back ∙ k)
 
 -- ---- a rate, sample or beacon packet
 

@@ -81,11 +81,11 @@ wrong-number xs e =
 
 -- ---- written packets are lists of bytes
 
-abbrev Bytes : List ℕ → Type 0
+abbrev pub Bytes : List ℕ → Type 0
 Bytes [] = Unit
 Bytes (x ∷ xs) = (x < 256) × Bytes xs
 
-bytes-below : (xs : List ℕ) → Bytes xs → EachBelow 256 xs
+pub bytes-below : (xs : List ℕ) → Bytes xs → EachBelow 256 xs
 bytes-below [] b k = omega arith
 bytes-below (x ∷ xs) b zero = b .0
 bytes-below (x ∷ xs) b (suc k) = bytes-below xs (b .1) k
@@ -118,7 +118,7 @@ unfolding trailer
 bytes-trailer st hf hm hl = bytes-below (trailer st) (omega arith)
 
 -- a packet of any kind, and one of rates, samples or beacons
-bytes-enveloped : (a q t : ℕ) (inner : List ℕ) → a < secondaryFlag → t < 4294967296 → EachBelow 256 inner
+pub bytes-enveloped : (a q t : ℕ) (inner : List ℕ) → a < secondaryFlag → t < 4294967296 → EachBelow 256 inner
     → EachBelow 256 (enveloped a q t inner)
 unfolding enveloped summed
 bytes-enveloped a q t inner ha ht hi =

@@ -17,7 +17,7 @@ use Rattle.decode.specs.Read.{readChecks, readNumber}
 -- what has a header has 272 bytes
 pub header-length : (xs : List ℕ) → headerGood xs ≡ true → length xs ≡ packetBytes
 unfolding headerGood
-header-length xs h = eqb-true (length xs) packetBytes (and-left _ _ h)
+header-length xs h = eqb-true (length xs) packetBytes (and-left _ _ (and-left _ _ h))
 
 pub accepted-is : (xs : List ℕ) → headerGood xs ≡ true → sumGood xs ≡ true → bodyGood (kindOf (applicationOf xs)) xs ≡ true
     → readNumber xs ≡ 0

@@ -90,17 +90,17 @@ sumOf xs = at24 xs tableSumAt
 
 -- ---- 11: "packet not 272 bytes, or no header above (any sequence count passes)"
 
--- "version 0, type 0, secondary flag 1, sequence flags 3, .. length 265; then time (4 bytes) and a zero", and a number of a kind
+-- "version 0, type 0, secondary flag 1, sequence flags 3, .. length 265; then time (4 bytes) and a zero"
 unfoldable pub fieldsGood : List ℕ → Bool
 fieldsGood xs =
     eqb (at16 xs applicationAt / secondaryFlag) 1
     && eqb (at16 xs sequenceAt / sequenceCounts) sequenceFlags
     && eqb (at16 xs lengthAt) lengthField
     && eqb (getD xs zeroAt 0) 0
-    && isKind (kindOf (applicationOf xs))
 
+-- of 272 bytes with the number of a kind
 unfoldable pub headerGood : List ℕ → Bool
-headerGood xs = eqb (length xs) packetBytes && fieldsGood xs
+headerGood xs = eqb (length xs) packetBytes && fieldsGood xs && isKind (kindOf (applicationOf xs))
 
 -- ---- 12: "packet sum wrong"
 

@@ -14,8 +14,8 @@ use packet::applications::SAMPLE_APPLICATION;
 use packet::layout;
 use wire::read::u16_at;
 
-// The header's fields, but for the sequence count and the time.
-fn fields_good(packet: &[u8]) -> bool
+// The header's fields, but for the application number, the sequence count and the time.
+pub fn fields_good(packet: &[u8]) -> bool
     requires { ⌜ length (now packet) ≡ packetBytes ⌝ }
     ensures { λ r. ⌜ r ≡ fieldsGood (now (packet .entry)) ⌝ }
 {
@@ -23,7 +23,6 @@ fn fields_good(packet: &[u8]) -> bool
         & (u16_at(packet, layout::SEQUENCE_AT) / layout::SEQUENCE_COUNTS == layout::SEQUENCE_FLAGS)
         & (u16_at(packet, layout::LENGTH_AT) == layout::LENGTH_FIELD)
         & (packet[layout::ZERO_AT] == 0)
-        & is_kind(kind_of(application(packet)))
 }
 
 // 272 bytes with a header of a kind.
@@ -31,14 +30,14 @@ fn header_good(packet: &[u8]) -> bool
     ensures { λ r. ⌜ r ≡ headerGood (now (packet .entry)) ⌝ }
 {
     if packet.len() == layout::PACKET_BYTES {
-        fields_good(packet)
+        fields_good(packet) & is_kind(kind_of(application(packet)))
     } else {
         false
     }
 }
 
 // The last byte is the sum of those before it.
-fn sum_good(packet: &[u8]) -> bool
+pub fn sum_good(packet: &[u8]) -> bool
     requires { ⌜ length (now packet) ≡ packetBytes ⌝ }
     ensures { λ r. ⌜ r ≡ sumGood (now (packet .entry)) ⌝ }
 {
@@ -61,7 +60,7 @@ fn codes_good(packet: &[u8], n: usize) -> bool
 }
 
 // Whether the n bytes from `at` on are zero.
-fn zeros_good(packet: &[u8], at: usize, n: usize) -> bool
+pub fn zeros_good(packet: &[u8], at: usize, n: usize) -> bool
     requires { ⌜ at + n ≤ length (now packet) ⌝ }
     ensures { λ r. ⌜ r ≡ zerosGood at n (now (packet .entry)) ⌝ }
 {

@@ -26,7 +26,7 @@ use Rattle.command.specs.declared.command.Setting.the-variants.{Limhi, Eonly, T
 use Rattle.command.specs.Change.{settingsAfter}
 use Rattle.orders.specs.declared.Waiting.{Waiting}
 use Rattle.orders.specs.Run.{settingsAfterAll}
-use Rattle.tally.specs.Calls.{Call, event, reading, line, load, close}
+use Rattle.tally.specs.Calls.{Call, event, reading, line, load, close, listing}
 use Rattle.tally.specs.Events.{sorted, countsBy, priority, recordFor, isEligible, eligiblesBy, slotsBy}
 use Rattle.tally.specs.Tally.{Tally, eventsOf, eligibles, ownSlots, totalsBy, numberFor, hasEffect, afterCall, tnext}
 use Rattle.tally.specs.Demand3.{All}
@@ -60,6 +60,7 @@ call-fits t (reading counts) h = h
 call-fits t (line bytes echo) h = h
 call-fits t (load bytes staging echo) h = h
 call-fits t (close time tables staging slots out) h = commands-fit (t .settings) (t .told .waiting) h
+call-fits t (listing i time tables out) h = h
 
 pub next-fits : (t : Tally) (c : Call) → t .settings .hvstep < 256 → tnext t c .settings .hvstep < 256
 unfolding tnext

@@ -18,11 +18,14 @@ use Rattle.packet.specs.Packet.{lastSample, stampOf}
 use Rattle.packet.specs.Ranges.{RateValues, BeaconValues}
 use Rattle.packet.specs.TableSum.{tableSum}
 use Rattle.ground.specs.Ground.{readOf, recordsOf}
+use Rattle.listing_packet.specs.Listing.{gatherNumber}
 use Rattle.ground.specs.Theorems.{rateRead, sampleRead, beaconRead}
+use Rattle.ground.specs.GatherTheorems.{ListingOf}
 use Rattle.state.specs.declared.State.{State}
 use Rattle.output.specs.Output.{samplePackets, outBytes, packetsOf}
 use Rattle.processor.specs.Close.{closeNumber, closeDone}
-use Rattle.tally.specs.Calls.{own, Call, event, reading, line, load, close, Reply, answered, echoed, closed, numberOf}
+use Rattle.processor.specs.Listing.{listingNumber, listingDone}
+use Rattle.tally.specs.Calls.{own, Call, event, reading, line, load, close, listing, Reply, answered, echoed, closed, listed, numberOf}
 use Rattle.tally.specs.Calls.{World, freshWorld, next, reply, after, Lawful}
 use Rattle.tally.specs.Tally.{Tally, freshTally, countsOf, totalsOf, frameOf, ownSlots, tnext, tafter}
 
@@ -123,6 +126,18 @@ CloseReceived =
     → closeNumber s (length tables) (length staging) slots (length out) ≡ carriedOut
     → Received (endedBy s time tables slots) (closeDone s time tables staging slots out .out)
 
+-- ---- of every listing that is carried out
+
+-- the gatherer takes it as packet i of these tables
+pub record Listed (tables : List ℕ) (i : ℕ) (packet : List ℕ) : Type 0 where
+  pub of-tables : ListingOf tables i packet
+  pub accepted : gatherNumber tableBytes packet ≡ carriedOut
+
+abbrev pub ListingReceived : Type 0
+ListingReceived =
+    (s : State) (i time : ℕ) (tables out : List ℕ) → listingNumber s i (length tables) (length out) ≡ carriedOut
+    → Listed tables i (listingDone s i time tables out .out)
+
 -- ---- of every list of calls to a fresh processor
 
 -- the interval that the tally keeps, its counts and slots worked out from its events
@@ -137,13 +152,15 @@ endedFor t time = record {
   slots = ownSlots t;
 }
 
--- the output of a close; no other call has one
+-- the output of a close or a listing; no other call has one
 abbrev pub outOf : Reply → List ℕ
 outOf (answered n) = []
 outOf (echoed n echo) = []
 outOf (closed n taken counts filled out) = out
+outOf (listed n out) = out
 
--- a close that is carried out: the ground reads the tally's interval. The time has 32 bits, as its type says
+-- a close that is carried out: the ground reads the tally's interval. The time has 32 bits, as its type says. A listing: the ground
+-- gathers the tally's tables
 abbrev pub TallyReceived : Tally → Call → Reply → Type 0
 TallyReceived t (event tables slots e) r = Unit {0}
 TallyReceived t (reading counts) r = Unit {0}
@@ -151,6 +168,7 @@ TallyReceived t (line bytes echo) r = Unit {0}
 TallyReceived t (load bytes staging echo) r = Unit {0}
 TallyReceived t (close time tables staging slots out) r =
     time < 4294967296 → numberOf r ≡ carriedOut → Received (endedFor t time) (outOf r)
+TallyReceived t (listing i time tables out) r = numberOf r ≡ carriedOut → Listed (t .tables) i (outOf r)
 
 -- of each call of a list, with the tally and the processor as they are before it
 abbrev pub EachReceived : Tally → World → List Call → Type 0

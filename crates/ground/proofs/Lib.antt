@@ -1,3 +1,5 @@
 pub mod Answers
 pub mod Back
 pub mod Damage
+pub mod Gathers
+pub mod GatherDamage

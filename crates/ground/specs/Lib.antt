@@ -1,2 +1,4 @@
 pub mod Ground
+pub mod Gather
 pub mod Theorems
+pub mod GatherTheorems

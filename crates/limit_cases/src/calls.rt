@@ -14,6 +14,8 @@ pub const ECHO_BYTES: usize = 128;
 
 pub const OUT_BYTES: usize = 3536;
 
+pub const PACKET_BYTES: usize = 272;
+
 // A time-of-flight channel in its range.
 pub const CHANNEL: u16 = 5;
 
@@ -51,7 +53,11 @@ pub fn close(s: State, tables: &mut [u8], staging: &[u8], slots: &mut [u32], out
     answer.number
 }
 
-// The same with buffers of the right lengths, for an event, the line "hv 1" and a package of one byte.
+pub fn listing(s: State, i: u16, tables: &[u8], out: &mut [u8]) -> u8 {
+    processor::listing::listing(s, i, 60, tables, out)
+}
+
+// The same with buffers of the right lengths, for an event, the line "hv 1", a package of one byte and the last listing packet.
 fn event_lent(s: State) -> u8 {
     let tables = [0u8; TABLE_BYTES];
     let mut slots = [0u32; SLOTS];
@@ -77,7 +83,13 @@ fn close_lent(s: State) -> u8 {
     close(s, &mut tables, &staging, &mut slots, &mut out)
 }
 
-// The numbers of all five calls for one state.
+fn listing_lent(s: State) -> u8 {
+    let tables = [0u8; TABLE_BYTES];
+    let mut out = [0u8; PACKET_BYTES];
+    listing(s, 249, &tables, &mut out)
+}
+
+// The numbers of all six calls for one state.
 pub fn all(name: &[u8], s: State) {
     printing::text(name);
     printing::number(event_lent(s));
@@ -85,5 +97,6 @@ pub fn all(name: &[u8], s: State) {
     printing::number(line_lent(s));
     printing::number(package_lent(s));
     printing::number(close_lent(s));
+    printing::number(listing_lent(s));
     printing::text(b"\n");
 }

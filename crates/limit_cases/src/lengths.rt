@@ -169,6 +169,8 @@ pub fn run() {
     staging_cases();
     echo_cases();
     output_cases();
+    crate::listings::lengths();
     lowest_cases();
     right_cases();
+    crate::listings::lowest();
 }

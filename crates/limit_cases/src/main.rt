@@ -1,9 +1,10 @@
-// Gives the five calls states at each limit and one beyond, buffers of the right length and one off, and slots of odd
+// Gives the six calls states at each limit and one beyond, buffers of the right length and one off, and slots of odd
 // boxes, and prints the number that each call answers. The expected output is what the second implementation prints.
 mod calls;
 mod commands;
 mod lengths;
 mod limits;
+mod listings;
 mod loads;
 mod printing;
 mod slots;

@@ -1,6 +1,6 @@
 // The packets of an interval: layout, writing, the table sum.
 pub mod applications;
-mod envelope;
+pub mod envelope;
 pub mod layout;
 pub mod stamp;
 pub mod table_sum;

@@ -30,7 +30,10 @@ use Rattle.processor.specs.Reading.{readingChecks, readingNumber}
 use Rattle.processor.specs.Line.{commandChecks, lineChecks, lineNumber}
 use Rattle.processor.specs.Package.{isStaged, packageCallNumber}
 use Rattle.output.specs.Output.{outBytes}
+use Rattle.packet.specs.Packet.{packetBytes}
+use Rattle.listing_packet.specs.Listing.{listingPackets}
 use Rattle.processor.specs.Close.{closeChecks, closeNumber}
+use Rattle.processor.specs.Listing.{listingChecks, listingNumber}
 
 -- ---- an event
 
@@ -188,4 +191,25 @@ close-closes s tables staging slots out h =
       slots-are = eqb-true _ _ (c .1);
       out-is = eqb-true _ _ (b .1);
       slots-good = a .1;
+    }
+
+-- ---- a listing
+
+pub record Lists (s : State) (i tables out : ℕ) : Type 0 where
+  pub limits : withinLimits s ≡ true
+  pub tables-are : tables ≡ tableBytes
+  pub out-is : out ≡ packetBytes
+  pub listed : i < listingPackets
+
+pub listing-lists : (s : State) (i tables out : ℕ) → listingNumber s i tables out ≡ 0 → Lists s i tables out
+unfolding listingNumber
+listing-lists s i tables out h =
+    let p = all-passed (listingChecks s i tables out) refl h in
+    let a = and-split _ _ (p .0) in
+    let b = and-split _ _ (a .0) in
+    record {
+      limits = b .0;
+      tables-are = eqb-true _ _ (b .1);
+      out-is = eqb-true _ _ (a .1);
+      listed = ltb-true _ _ (p .1 .0);
     }

@@ -4,4 +4,5 @@ pub mod Reading
 pub mod Line
 pub mod Package
 pub mod Close
+pub mod Listing
 pub mod Lowest

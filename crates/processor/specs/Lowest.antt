@@ -9,6 +9,7 @@ use Rattle.processor.specs.Reading.{readingChecks, readingNumber}
 use Rattle.processor.specs.Line.{lineChecks, lineNumber}
 use Rattle.processor.specs.Package.{packageCallChecks, packageCallNumber}
 use Rattle.processor.specs.Close.{closeChecks, closeNumber}
+use Rattle.processor.specs.Listing.{listingChecks, listingNumber}
 
 -- "the lowest number that applies is given": of the checks, whichever other number applies is no lower
 abbrev pub Lowest : List Check → (number : ℕ) → Type 0
@@ -22,3 +23,4 @@ pub record LowestGiven : Type 0 where
       → Lowest (packageCallChecks s p staging echo) (packageCallNumber s p staging echo)
   pub of-close : (s : State) (tables staging : ℕ) (slots : List ℕ) (out : ℕ)
       → Lowest (closeChecks s tables staging slots out) (closeNumber s tables staging slots out)
+  pub of-listing : (s : State) (i tables out : ℕ) → Lowest (listingChecks s i tables out) (listingNumber s i tables out)

@@ -2,6 +2,7 @@
 pub mod close;
 pub mod event;
 pub mod line;
+pub mod listing;
 pub mod load_package;
 pub mod reading;
 

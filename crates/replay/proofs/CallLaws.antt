@@ -52,6 +52,10 @@ module _ (s : State) (tables staging slots echo body : List ℕ) (r : State) whe
   unfolding carriedOut
   package-leaves kind staging′ echo′ k e = rw k (e .0, refl, e .1, refl, e .2)
 
+  pub listing-leaves : (kind : ℕ) → kind ≡ 7 → r ≡ s → Leaves kind tables staging slots echo
+  unfolding carriedOut
+  listing-leaves kind k e = rw k (e, refl, refl, refl, refl)
+
   pub other-leaves : (kind : ℕ) → (kind ≡ 1 → ⊥) × (kind ≡ 2 → ⊥) × (kind ≡ 3 → ⊥) × (kind ≡ 4 → ⊥) × (kind ≡ 5 → ⊥)
       → r ≡ s
       → Leaves kind tables staging slots echo

@@ -9,23 +9,27 @@ use lib.ListN.{getD}
 use Rattle.wire.specs.Bytes.{at16}
 use Rattle.buffered.specs.declared.input.Input.{Input}
 use Rattle.buffered.specs.Input.{Held, waitingIn}
-use Rattle.stream.specs.Record.{LongAs, FoundIn, IsOf}
+use Rattle.stream.specs.Record.{FoundIn, IsOf}
 use Rattle.stream.specs.declared.record.Next.{Next}
 use Rattle.stream.specs.declared.record.Next.the-variants.{End, Bad, Record}
 use Rattle.buffered.proofs.InputLaws.{byte-same}
-use Rattle.replay.specs.Record.{isCounted, BodyLong, FirstOf}
+use Rattle.replay.specs.Record.{isCounted, Long, BodyLong, FirstOf}
 use Rattle.replay.specs.Step.{LiesIn}
 
 module _ (kind : ℕ) where
   -- a kind whose body has its length in front is none of those whose body has a length of its own
-  counted-long : (n : ℕ) → isCounted kind ≡ true → LongAs kind n
-  counted-long n h = (λ e. absurd (other 1 e refl), λ e. absurd (other 2 e refl), λ e. absurd (other 4 e refl))
+  counted-long : (n : ℕ) → isCounted kind ≡ true → Long kind n
+  counted-long n h = (
+    (λ e. absurd (other 1 e refl), λ e. absurd (other 2 e refl), λ e. absurd (other 4 e refl)),
+    λ e. absurd (other 7 e refl),
+    λ e. absurd (other 9 e refl),
+  )
     where
       other : (k : ℕ) → kind ≡ k → isCounted k ≡ false → ⊥
       other k e q = false≢true (sym q ∙ ap isCounted (sym e) ∙ h)
 
 -- a body of a length of its own
-pub own-long : (k n : ℕ) (r : Next) (buffer : List ℕ) → isCounted k ≡ false → LongAs k n → IsOf k 1 n r → BodyLong r buffer
+pub own-long : (k n : ℕ) (r : Next) (buffer : List ℕ) → isCounted k ≡ false → Long k n → IsOf k 1 n r → BodyLong r buffer
 own-long k n End buffer t l q = tt
 own-long k n Bad buffer t l q = tt
 own-long k n (Record kind start from rest) buffer t l q =

@@ -1,4 +1,4 @@
--- A record of replay, carried out: the call of its kind. Assumes nothing.
+-- A record of replay, carried out aboard: the call of its kind. Assumes nothing.
 use mathlib.Core.Bool.{cond}
 use mathlib.Core.List.{List}
 use mathlib.Core.Path.{_≡_}
@@ -24,8 +24,8 @@ pub record Carried : Type 0 where
 abbrev pub carried : State → (tables staging slots echo : List ℕ) → Carried
 carried s tables staging slots echo = record { state = s; tables = tables; staging = staging; slots = slots; echo = echo }
 
--- "1 event .., 2 reading .., 3 line .., 4 close", and 5 a package; a close's packets go to a buffer of zeros. A packet that is read
--- changes nothing
+-- "1 event .., 2 reading .., 3 line .., 4 close", and 5 a package; a close's packets go to a buffer of zeros. A listing and the
+-- records of the ground change nothing
 unfoldable pub carriedOut : (kind : ℕ) → State → (tables staging slots echo body : List ℕ) → Carried
 carriedOut kind s tables staging slots echo body =
     let event = recordDone s tables slots body in

@@ -1,4 +1,4 @@
--- Records of replay: as minute's, but lines, packages and packets have their length in front. Assumes nothing.
+-- Records of replay: as minute's, but lines, packages, packets and bytes to gather have their length in front. Assumes nothing.
 use mathlib.Core.Bool.{Bool, true, _||_, cond}
 use mathlib.Core.List.{List}
 use mathlib.Core.Path.{_≡_}
@@ -10,7 +10,11 @@ use Rattle.stream.specs.declared.record.Next.{Next}
 use Rattle.stream.specs.declared.record.Next.the-variants.{End, Bad, Record}
 
 abbrev pub isCounted : ℕ → Bool
-isCounted kind = eqb kind 3 || eqb kind 5 || eqb kind 6
+isCounted kind = eqb kind 3 || eqb kind 5 || eqb kind 6 || eqb kind 8
+
+-- a body of n bytes has the length of its kind: 7 a listing (6, i and time), 9 what was gathered (none), and minute's
+abbrev pub Long : (kind n : ℕ) → Type 0
+Long kind n = LongAs kind n × (kind ≡ 7 → n ≡ 6) × (kind ≡ 9 → n ≡ 0)
 
 -- how many bytes stand before a body: its kind, and a length of two bytes if it has one
 abbrev pub headOf : ℕ → ℕ
@@ -22,7 +26,7 @@ BodyLong End buffer = Unit {0}
 BodyLong Bad buffer = Unit {0}
 BodyLong (Record kind start from rest) buffer =
     (start + headOf kind ≡ from)
-    × LongAs kind (rest .at - from)
+    × Long kind (rest .at - from)
     × (isCounted kind ≡ true → rest .at - from ≡ at16 buffer (start + 1))
 
 -- the record that stands first where the bytes `old` wait

@@ -6,17 +6,19 @@ use Prim.Native.Nat.{ℕ, _-_, _≤_}
 use lib.ListN.{take, drop}
 use Rattle.state.specs.declared.State.{State}
 use Rattle.buffered.specs.Input.{Held}
-use Rattle.stream.specs.Record.{LongAs}
 use Rattle.stream.specs.declared.record.Next.{Next}
 use Rattle.stream.specs.declared.record.Next.the-variants.{End, Bad, Record}
 use Rattle.stream.specs.declared.record.Step.{Step}
+use Rattle.ground.specs.GatherTheorems.{Gatherer}
+use Rattle.replay.specs.Record.{Long}
 use Rattle.replay.specs.Calls.{carriedOut, Left}
+use Rattle.replay.specs.Ground.{groundOut}
 
 -- the record's body lies in the buffer, and the rest of the input behind it
 abbrev pub LiesIn : Next → (buffer : List ℕ) → Type 0
 LiesIn End buffer = Unit {0}
 LiesIn Bad buffer = Unit {0}
-LiesIn (Record kind start from rest) buffer = (from ≤ rest .at) × Held rest buffer × LongAs kind (rest .at - from)
+LiesIn (Record kind start from rest) buffer = (from ≤ rest .at) × Held rest buffer × Long kind (rest .at - from)
 
 -- the end and a bad record change nothing and are the last
 abbrev pub Same : State → (tables staging slots echo : List ℕ) → Step → (tables′ staging′ slots′ echo′ : List ℕ) → Type 0
@@ -37,3 +39,9 @@ Stepped (Record kind start from rest) s tables staging slots echo buffer r table
     × (r .input .at ≡ rest .at)
     × (r .input .end ≡ rest .end)
     × (r .more ≡ true)
+
+-- what is gathered after the step, from what was gathered before it: the end and a bad record change nothing here either
+abbrev pub groundStepped : Next → Gatherer → (buffer : List ℕ) → Gatherer
+groundStepped End g buffer = g
+groundStepped Bad g buffer = g
+groundStepped (Record kind start from rest) g buffer = groundOut kind g (take (rest .at - from) (drop from buffer))

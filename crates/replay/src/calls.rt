@@ -1,4 +1,4 @@
-// The calls, each with its answer printed.
+// The calls aboard, each with its answer printed.
 ghost use mathlib.Core.Path.{_≡_};
 ghost use lib.ListN.{length};
 ghost use Rattle.wire.specs.Bytes.{zeros, at32};
@@ -7,8 +7,10 @@ ghost use Rattle.processor.specs.Close.{closeDone};
 ghost use Rattle.processor.specs.Line.{lineDone};
 ghost use Rattle.processor.specs.Package.{packageDone};
 ghost use Rattle.processor.specs.Reading.{readingDone};
-ghost use Rattle.stream.specs.Record.{LongAs, countsIn, recordDone};
+ghost use Rattle.stream.specs.Record.{countsIn, recordDone};
 ghost use Rattle.replay.specs.Calls.{carriedOut, Left};
+ghost use Rattle.replay.specs.Record.{Long};
+use crate::records::LISTING;
 use crate::records::PACKAGE;
 use state::State;
 
@@ -93,7 +95,18 @@ fn close(
     closed.state
 }
 
-// One record.
+// One packet of the tables, which changes nothing aboard.
+fn listing(state: State, tables: &[u8], body: &[u8], text: &mut [u8], at: &mut usize)
+    requires { ⌜ length (now body) ≡ 6 ⌝ }
+{
+    let i = wire::read::u16_at(body, 0);
+    let time = wire::read::u32_at(body, 2);
+    let mut out = [0u8; packet::layout::PACKET_BYTES];
+    let number = processor::listing::listing(state, i, time, tables, &mut out);
+    answers::listing::print_listing(text, at, number, &out);
+}
+
+// One record, of which those of the ground change nothing aboard.
 pub fn carry_out(
     kind: u8,
     state: State,
@@ -105,7 +118,7 @@ pub fn carry_out(
     text: &mut [u8],
     at: &mut usize,
 ) -> State
-    requires { ⌜ LongAs kind (length (now body)) ⌝ }
+    requires { ⌜ Long kind (length (now body)) ⌝ }
     ensures { λ r. ⌜ Left
         (carriedOut kind state (now (tables .entry)) (now (staging .entry)) (now (slots .entry)) (now (echo .entry)) (now (body .entry)))
         r (now (tables .exit)) (now (staging .exit)) (now (slots .exit)) (now (echo .exit)) ⌝ }
@@ -116,9 +129,10 @@ pub fn carry_out(
         stream::record::LINE => line(state, echo, body, text, at),
         stream::record::CLOSE => close(state, tables, staging, slots, body, text, at),
         PACKAGE => package(state, staging, echo, body, text, at),
-        _ => {
-            answers::packets::print_packet(text, at, body);
+        LISTING => {
+            listing(state, tables, body, text, at);
             state
         }
+        _ => state,
     }
 }

@@ -1,13 +1,17 @@
 // Reads tables.bin and a list of calls from standard input, carries them out and prints every answer.
 mod calls;
+mod ground_calls;
 mod records;
 
+ghost use mathlib.Core.Path.{_≡_};
 ghost use Rattle.buffered.specs.Input.{Held};
-ghost use Rattle.replay.specs.Step.{LiesIn, Stepped};
+ghost use Rattle.replay.specs.Ground.{gatherer};
+ghost use Rattle.replay.specs.Step.{LiesIn, Stepped, groundStepped};
 use buffered::input::Input;
 use buffered::text::OVER;
 use buffered::turns::MOST_TURNS;
 use buffered::turns::left;
+use ground::gather::Gathered;
 use state::State;
 use stream::record::Next;
 use stream::record::Step;
@@ -15,26 +19,43 @@ use stream::record::bad;
 use stream::record::going_on;
 use stream::record::stopped;
 
-// What was found is carried out.
+// Where the program stands after a record, and what has come to the ground.
+struct Done {
+    step: Step,
+    gathered: Gathered,
+}
+
+// The two put together.
+fn both(step: Step, gathered: Gathered) -> Done
+    ensures { λ r. ⌜ (r .step ≡ step) × (r .gathered ≡ gathered) ⌝ }
+{
+    Done { step, gathered }
+}
+
+// What was found is carried out, aboard and on the ground.
 fn step(
     state: State,
+    gathered: Gathered,
     found: Next,
     tables: &mut [u8],
     staging: &mut [u8],
     slots: &mut [u32],
     echo: &mut [u8],
+    table: &mut [u8],
     buffer: &[u8],
     text: &mut [u8],
     at: &mut usize,
-) -> Step
+) -> Done
     requires { ⌜ LiesIn found (now buffer) ⌝ }
-    ensures input { λ r. ⌜ Held (r .input) (now (buffer .entry)) ⌝ }
+    ensures input { λ r. ⌜ Held (r .step .input) (now (buffer .entry)) ⌝ }
     ensures step { λ r. ⌜ Stepped found state (now (tables .entry)) (now (staging .entry)) (now (slots .entry)) (now (echo .entry))
-        (now (buffer .entry)) r (now (tables .exit)) (now (staging .exit)) (now (slots .exit)) (now (echo .exit)) ⌝ }
+        (now (buffer .entry)) (r .step) (now (tables .exit)) (now (staging .exit)) (now (slots .exit)) (now (echo .exit)) ⌝ }
+    ensures ground { λ r. ⌜ gatherer (r .gathered) (now (table .exit))
+        ≡ groundStepped found (gatherer gathered (now (table .entry))) (now (buffer .entry)) ⌝ }
 {
     match found {
-        Next::End => stopped(state),
-        Next::Bad => bad(state, text, at),
+        Next::End => both(stopped(state), gathered),
+        Next::Bad => both(bad(state, text, at), gathered),
         Next::Record {
             kind,
             start: _,
@@ -44,7 +65,8 @@ fn step(
             let to = rest.at;
             let body = &buffer[from..to];
             let after = calls::carry_out(kind, state, tables, staging, slots, echo, body, text, at);
-            going_on(after, rest)
+            let then = ground_calls::carry_out(kind, gathered, table, body, text, at);
+            both(going_on(after, rest), then)
         }
     }
 }
@@ -55,10 +77,12 @@ fn run(
     staging: &mut [u8],
     slots: &mut [u32],
     echo: &mut [u8],
+    table: &mut [u8],
     buffer: &mut [u8],
     text: &mut [u8],
 ) {
     let mut state = state::fresh();
+    let mut gathered = ground::gather::none();
     let mut input = buffered::input::none();
     let mut at: usize = 0;
     let mut turns = MOST_TURNS;
@@ -66,18 +90,22 @@ fn run(
         let found = records::next(buffer, input, text, &mut at);
         let done = step(
             state,
+            gathered,
             found,
             tables,
             staging,
             slots,
             echo,
+            table,
             buffer,
             text,
             &mut at,
         );
-        state = done.state;
-        input = done.input;
-        turns = left(turns, done.more & (at != OVER));
+        let after = done.step;
+        state = after.state;
+        input = after.input;
+        gathered = done.gathered;
+        turns = left(turns, after.more & (at != OVER));
     }
     buffered::text::flush(text, &mut at);
 }
@@ -91,6 +119,7 @@ fn main() {
     let mut staging = [0u8; load::staging::STAGING_BYTES];
     let mut slots = [0u32; settings::SLOTS as usize];
     let mut echo = [0u8; echo::ECHO_BYTES];
+    let mut table = [0u8; tables::TABLE_BYTES];
     let mut buffer = [0u8; buffered::input::INPUT_BYTES];
     let mut text = [0u8; buffered::text::TEXT_BYTES];
     run(
@@ -98,6 +127,7 @@ fn main() {
         &mut staging,
         &mut slots,
         &mut echo,
+        &mut table,
         &mut buffer,
         &mut text,
     );

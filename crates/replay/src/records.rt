@@ -1,10 +1,10 @@
 // The records of a list of calls.
 ghost use mathlib.Core.Bool.{true};
 ghost use mathlib.Core.Path.{_≡_};
-ghost use Prim.Native.Nat.{_<_};
+ghost use Prim.Native.Nat.{_≤_, _<_};
 ghost use lib.ListN.{getD};
 ghost use Rattle.buffered.specs.Input.{Held, waitingIn};
-ghost use Rattle.replay.specs.Record.{isCounted, FirstOf};
+ghost use Rattle.replay.specs.Record.{isCounted, Long, FirstOf};
 use buffered::input::Input;
 use stream::record::Next;
 use stream::record::whole;
@@ -14,11 +14,31 @@ pub const PACKAGE: u8 = 5;
 
 pub const PACKET: u8 = 6;
 
+pub const LISTING: u8 = 7;
+
+pub const GATHER: u8 = 8;
+
+pub const GATHERED: u8 = 9;
+
+// A listing's body: which packet, and the time.
+const LISTING_BYTES: usize = 6;
+
 // Whether a body has its length in front.
 fn is_counted(kind: u8) -> bool
     ensures { λ r. ⌜ r ≡ isCounted kind ⌝ }
 {
-    (kind == stream::record::LINE) | (kind == PACKAGE) | (kind == PACKET)
+    (kind == stream::record::LINE) | (kind == PACKAGE) | (kind == PACKET) | (kind == GATHER)
+}
+
+// The length of a body that has none in front; 0 for no kind, and for the kind that has no body.
+fn body_bytes(kind: u8) -> usize
+    ensures { λ r. ⌜ (r ≤ 16) × Long kind r ⌝ }
+{
+    match kind {
+        LISTING => LISTING_BYTES,
+        GATHERED => 0,
+        _ => stream::record::fixed_bytes(kind),
+    }
 }
 
 // A kind byte and a length.
@@ -54,8 +74,8 @@ pub fn next(buffer: &mut [u8], input: Input, text: &[u8], at: &mut usize) -> Nex
     if is_counted(kind) {
         return counted(buffer, one, kind, text, at);
     }
-    let n = stream::record::fixed_bytes(kind);
-    if n == 0 {
+    let n = body_bytes(kind);
+    if (n == 0) & (kind != GATHERED) {
         return Next::Bad;
     }
     whole(buffer, one, kind, 1, n, text, at)

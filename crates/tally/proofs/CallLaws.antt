@@ -2,6 +2,7 @@
 -- alone. Assumes nothing.
 use mathlib.Core.Path.{_≡_, refl, sym}
 use mathlib.Core.Bool.{Bool, true, false, _||_, false≢true}
+use mathlib.Core.List.{List}
 use Prim.Native.Nat.{ℕ}
 use lib.Dec.{eqb, leb}
 use lib.ListN.{length}
@@ -14,9 +15,10 @@ use Rattle.processor.specs.Reading.{readingNumber, readingDone}
 use Rattle.processor.specs.Line.{stateTold, lineNumber, lineDone}
 use Rattle.processor.specs.Package.{isStaged, packageCallNumber, packageDone}
 use Rattle.processor.specs.Close.{closeDone}
+use Rattle.processor.specs.Listing.{listingDone}
 use Rattle.processor.proofs.LimitsKept.{event-kept, reading-kept, line-kept, package-kept, close-kept}
-use Rattle.tally.specs.Calls.{found, Call, event, reading, line, load, close, numberOf}
-use Rattle.tally.specs.Calls.{World, lineIn, loadIn, closeIn, next, reply, Typed}
+use Rattle.tally.specs.Calls.{Lent, found, Call, event, reading, line, load, close, listing, numberOf}
+use Rattle.tally.specs.Calls.{World, lineIn, loadIn, closeIn, listingIn, next, reply, Typed}
 use Rattle.tally.proofs.Steps.{kept-same}
 
 -- a reading has eight 16-bit counts and a state 32 places for commands, as their types say
@@ -29,6 +31,7 @@ limits-kept w (line bytes echo) y l h = line-kept (w .state) h bytes echo l
 limits-kept w (load bytes g echo) y l h = package-kept (w .state) h bytes (found g (w .staging)) echo
 limits-kept w (close time t g s out) y l h =
     close-kept (w .state) h time (found t (w .tables)) (found g (w .staging)) (found s (w .slots)) out
+limits-kept w (listing i time t out) y l h = h
 
 -- ---- what is refused, 10 apart, leaves the state and the processor's own buffers
 
@@ -46,6 +49,7 @@ refused-keeps w (reading counts) h = rw (refused _ h)
 refused-keeps w (line bytes echo) h = rw (refused _ h)
 refused-keeps w (load bytes g echo) h = rw (h, kept-same g (w .staging))
 refused-keeps w (close time t g s out) h = rw (refused _ h, kept-same t (w .tables), kept-same s (w .slots))
+refused-keeps w (listing i time t out) h = refl
 
 -- it leaves the output and the echo too: only 5, 6 and 7 of a line have an echo of their own
 abbrev pub LentLeft : World → Call → Type 0
@@ -54,14 +58,16 @@ LentLeft w (reading counts) = Unit {0}
 LentLeft w (line bytes echo) = leb wrongLine (lineIn w bytes echo .answer .number) ≡ false → lineIn w bytes echo .echo ≡ echo
 LentLeft w (load bytes g echo) = loadIn w bytes g echo .echo ≡ echo
 LentLeft w (close time t g s out) = closeIn w time t g s out .out ≡ out
+LentLeft w (listing i time t out) = listingIn w i time t out .out ≡ out
 
 pub refused-leaves : (w : World) (c : Call) → isStaged (numberOf (reply w c)) ≡ false → LentLeft w c
-unfolding reply lineDone packageDone closeDone
+unfolding reply lineDone packageDone closeDone listingDone
 refused-leaves w (event t s e) h = tt
 refused-leaves w (reading counts) h = tt
 refused-leaves w (line bytes echo) h = λ k. rw (refused _ h, k)
 refused-leaves w (load bytes g echo) h = rw h
 refused-leaves w (close time t g s out) h = rw (refused _ h)
+refused-leaves w (listing i time t out) h = rw (refused _ h)
 
 -- ---- settings and tables change in a close alone
 
@@ -71,6 +77,7 @@ isClose (reading counts) = false
 isClose (line bytes echo) = false
 isClose (load bytes g echo) = false
 isClose (close time t g s out) = true
+isClose (listing i time t out) = false
 
 pub between-closes : (w : World) (c : Call) → isClose c ≡ false
     → (next w c .state .settings ≡ w .state .settings) × (next w c .tables ≡ w .tables)
@@ -82,3 +89,9 @@ between-closes w (line bytes echo) h = (decide (eqb (lineNumber (w .state) bytes
 between-closes w (load bytes g echo) h =
     (decide (isStaged (packageCallNumber (w .state) bytes (length (found g (w .staging))) (length echo))) (λ q. rw q) (λ q. rw q), refl)
 between-closes w (close time t g s out) h = absurd (false≢true (sym h))
+between-closes w (listing i time t out) h = (refl, refl)
+
+-- "Listing changes nothing aboard", whatever it is answered
+pub listing-keeps : (w : World) (i time : ℕ) (t : Lent) (out : List ℕ) → next w (listing i time t out) ≡ w
+unfolding next
+listing-keeps w i time t out = refl

@@ -12,7 +12,7 @@ use Rattle.causes.specs.Checks.{Check}
 use Rattle.causes.proofs.CheckLaws.{passed-first}
 use Rattle.wire.specs.Lists.{all}
 use Rattle.wire.specs.Pieces.{padded}
-use Rattle.wire.proofs.Lists.{all-append, choice}
+use Rattle.wire.proofs.Lists.{all-append, choice, decide}
 use Rattle.settings.specs.declared.Settings.{Settings}
 use Rattle.settings.specs.Settings.{slotCount}
 use Rattle.tables.specs.Tables.{tableBytes}
@@ -33,8 +33,10 @@ use Rattle.state.specs.Interval.{mostEvents}
 use Rattle.state.proofs.LimitLaws.{state-limits}
 use Rattle.processor.specs.Package.{isStaged}
 use Rattle.output.specs.Output.{outBytes, packetsOf}
-use Rattle.tally.specs.Calls.{Lent, own, Call, event, reading, line, load, close}
-use Rattle.tally.specs.Calls.{answered, closed, World, freshWorld, reply, after, Lawful}
+use Rattle.packet.specs.Packet.{packetBytes}
+use Rattle.listing_packet.specs.Listing.{listingPackets, listingPacket}
+use Rattle.tally.specs.Calls.{Lent, own, Call, event, reading, line, load, close, listing}
+use Rattle.tally.specs.Calls.{answered, closed, listed, World, freshWorld, reply, after, Lawful}
 use Rattle.tally.specs.Events.{sorted, isEligible, priority, recordFor, eligiblesBy, slotsBy}
 use Rattle.tally.specs.Tally.{Tally, freshTally, eventsOf, countsOf, eligibles, ownSlots, totalsOf, frameOf}
 use Rattle.tally.specs.Tally.{lentStaging, loadWaitsFor, numberFor, hasEffect, staged, ended, afterCall, tnext, treply, tafter}
@@ -137,6 +139,7 @@ after-sized t (reading counts) v z q = same-sizes t _ refl refl z
 after-sized t (line bytes echo) v z q = same-sizes t _ refl refl z
 after-sized t (load bytes staging echo) v z q = staged-sized t bytes staging echo z q
 after-sized t (close time tables staging slots out) v z q = ended-sized t v z
+after-sized t (listing i time tables out) v z q = z
 
 step-sized : (t : Tally) (c : Call) → Inv t → Sized t → Sized (tnext t c)
 unfolding tnext
@@ -197,3 +200,15 @@ module _ (tables staging : List ℕ) (lt : length tables ≡ tableBytes) (ls : l
         eq-eqb _ _ lo,
         slots-good now now-inv,
       )
+
+  -- a listing with output of the right length is refused only where i is none of the 250, and brings down the tally's tables
+  pub listing-now : (i time : ℕ) (out : List ℕ) → length out ≡ packetBytes
+      → reply (after (freshWorld tables staging) cs) (listing i time own out)
+      ≡ cond (ltb i listingPackets) (listed 0 (listingPacket (frameOf now) time i (now .tables))) (listed 14 out)
+  unfolding treply numberFor
+  listing-now i time out lo =
+      ap (λ (w : World). reply w (listing i time own out)) world-now
+      ∙ step-reply now now-inv (listing i time own out) (λ q. refl)
+      ∙ decide (ltb i listingPackets)
+      (λ q. simp (eq-eqb _ _ (now-sized .tables-are), eq-eqb _ _ lo, q))
+      (λ q. simp (eq-eqb _ _ (now-sized .tables-are), eq-eqb _ _ lo, q))

@@ -9,7 +9,7 @@ use Rattle.wire.proofs.Lists.{choice}
 use Rattle.wire.proofs.Pieces.{length-table}
 use Rattle.state.specs.Interval.{noCounts}
 use Rattle.output.proofs.OutputLaws.{slots-sent}
-use Rattle.tally.specs.Calls.{Call, event, reading, line, load, close, closed}
+use Rattle.tally.specs.Calls.{Call, event, reading, line, load, close, listing, closed}
 use Rattle.tally.specs.Events.{countsBy}
 use Rattle.tally.specs.Tally.{Tally, countsOf, ownSlots, totalsBy, totalsOf, frameOf, numberFor, closedReply, treply}
 use Rattle.tally.specs.Demand3.{ClosedRight}
@@ -47,3 +47,4 @@ reply-right t (load bytes staging echo) v = tt
 reply-right t (close time tables staging slots out) v =
     let n = numberFor t (close time tables staging slots out) in
     choice (ClosedRight t) (eqb n 0) _ _ (λ q. ended-right t v time) (refused-right t n out)
+reply-right t (listing i time tables out) v = tt

@@ -20,12 +20,13 @@ use Rattle.processor.specs.Reading.{readingDone}
 use Rattle.processor.specs.Line.{lineDone}
 use Rattle.processor.specs.Package.{packageDone}
 use Rattle.processor.specs.Close.{closeDone}
-use Rattle.tally.specs.Calls.{Call, event, reading, line, load, close, answered, isOwn, reply, LawfulCall}
+use Rattle.processor.specs.Listing.{listingDone}
+use Rattle.tally.specs.Calls.{Call, event, reading, line, load, close, listing, answered, isOwn, reply, LawfulCall}
 use Rattle.tally.specs.Events.{sorted, priority, recordFor, slotsBy}
 use Rattle.tally.specs.Tally.{Tally, eligibles, ownSlots, numberFor, treply}
 use Rattle.tally.specs.View.{view}
 use Rattle.tally.proofs.Invariant.{Inv, limhi-most}
-use Rattle.tally.proofs.Steps.{own-found, owned, event-number, reading-number, line-number, load-number, close-number}
+use Rattle.tally.proofs.Steps.{own-found, owned, event-number, reading-number, line-number, load-number, close-number, listing-number}
 
 -- ---- filled slots
 
@@ -48,7 +49,7 @@ filled-slots t v =
     ∙ length-sampled (priority s (t .tables)) slotCount (s .limhi) (eligibles t) (limhi-most t v)
 
 pub step-reply : (t : Tally) (v : Inv t) (c : Call) → LawfulCall (view t) c → reply (view t) c ≡ treply t c
-unfolding reply treply view eventDone readingDone lineDone packageDone closeDone
+unfolding reply treply view eventDone readingDone lineDone packageDone closeDone listingDone
 step-reply t v (event tables slots e) h = ap answered (event-number t v tables slots e)
 step-reply t v (reading counts) h = ap answered (reading-number t v counts)
 step-reply t v (line bytes echo) h = rw (line-number t v bytes echo)
@@ -62,3 +63,7 @@ step-reply t v (close time tables staging slots out) h =
     let b = and-right (isOwn staging) (isOwn slots) (and-right (isOwn tables) (isOwn staging && isOwn slots) o) in
     rw (q, own-found tables (t .tables) a, own-found slots (ownSlots t) b, eqb-true (numberFor t c) 0 q, filled-slots t v))
     (λ q. rw q))
+step-reply t v (listing i time tables out) h =
+    let c = listing i time tables out in
+    rw (listing-number t v i time tables out) (decide (eqb (numberFor t c) 0)
+    (λ q. rw (q, own-found tables (t .tables) (owned t v c h q))) (λ q. rw q))

@@ -21,8 +21,9 @@ use Rattle.processor.specs.Reading.{readingNumber, readingDone}
 use Rattle.processor.specs.Line.{commandChecks, lineNumber, lineDone}
 use Rattle.processor.specs.Package.{isStaged, packageCallNumber, packageDone}
 use Rattle.processor.specs.Close.{closeNumber, closeDone}
+use Rattle.processor.specs.Listing.{listingNumber, listingDone}
 use Rattle.tally.specs.Calls.{Lent, own, other, found, kept, isOwn, Call, event, reading}
-use Rattle.tally.specs.Calls.{line, load, close, numberOf, next, reply, owns, LawfulCall}
+use Rattle.tally.specs.Calls.{line, load, close, listing, numberOf, next, reply, owns, LawfulCall}
 use Rattle.tally.specs.Tally.{Tally, eventsOf, ownSlots, lentTables, lentStaging, lentSlots}
 use Rattle.tally.specs.Tally.{loadWaitsFor, fullFor, lineFor, numberFor, hasEffect, ended, tnext}
 use Rattle.tally.specs.View.{viewState, view}
@@ -70,13 +71,19 @@ module _ (t : Tally) (v : Inv t) where
   unfolding closeNumber numberFor
   close-number time tables staging slots out = rw (v .limits)
 
+  pub listing-number : (i time : ℕ) (tables : Lent) (out : List ℕ)
+      → listingNumber (viewState t) i (length (lentTables t tables)) (length out) ≡ numberFor t (listing i time tables out)
+  unfolding listingNumber numberFor
+  listing-number i time tables out = rw (v .limits)
+
   pub number-is : (c : Call) → numberOf (reply (view t) c) ≡ numberFor t c
-  unfolding reply view eventDone readingDone lineDone packageDone closeDone
+  unfolding reply view eventDone readingDone lineDone packageDone closeDone listingDone
   number-is (event tables slots e) = event-number tables slots e
   number-is (reading counts) = reading-number counts
   number-is (line bytes echo) = line-number bytes echo
   number-is (load bytes staging echo) = load-number bytes staging echo
   number-is (close time tables staging slots out) = close-number time tables staging slots out
+  number-is (listing i time tables out) = listing-number i time tables out
 
 -- a call that has an effect lends the processor's own buffers, if it is lawful
 zero-staged : (n : ℕ) → eqb n 0 ≡ true → isStaged n ≡ true
@@ -88,6 +95,7 @@ effect-staged (reading counts) n h = zero-staged n h
 effect-staged (line bytes echo) n h = zero-staged n h
 effect-staged (load bytes staging echo) n h = h
 effect-staged (close time tables staging slots out) n h = zero-staged n h
+effect-staged (listing i time tables out) n h = zero-staged n h
 
 -- a line that is accepted passes its command's checks
 line-heard : (t : Tally) (bytes echo : List ℕ) → numberFor t (line bytes echo) ≡ 0
@@ -167,3 +175,5 @@ module _ (t : Tally) (v : Inv t) where
         slots = no-slots (ended t .settings) (ended t .tables) i;
       }))
       (λ q. rw (q, kept-same tables (t .tables), kept-same slots (ownSlots t))))
+  step-next (listing i time tables out) h =
+      decide (eqb (numberFor t (listing i time tables out)) 0) (λ q. rw q) (λ q. rw q)

@@ -24,7 +24,7 @@ use Rattle.processor.specs.Line.{lineNumber, stateTold, lineDone}
 use Rattle.processor.specs.Package.{isStaged, packageCallNumber, packageDone}
 use Rattle.processor.specs.Close.{closeNumber, stateClosed, closeDone}
 use Rattle.processor.proofs.LimitsKept.{fresh-kept}
-use Rattle.tally.specs.Calls.{Lent, own, other, found, isOwn, Call, event, reading, line, load, close}
+use Rattle.tally.specs.Calls.{Lent, own, other, found, isOwn, Call, event, reading, line, load, close, listing}
 use Rattle.tally.specs.Calls.{Reply, World, freshWorld, next, reply, replies, after, Typed, LawfulCall, Lawful}
 use Rattle.tally.specs.Tally.{Tally, freshTally, eventsOf, checksFor, numberFor}
 use Rattle.tally.specs.Tally.{hasEffect, afterCall, tnext, treply, treplies, tafter}
@@ -55,6 +55,7 @@ module _ (t : Tally) (v : Inv t) where
   after-range (line bytes echo) q = v .range
   after-range (load bytes staging echo) q = v .range
   after-range (close time tables staging slots out) q = tt
+  after-range (listing i time tables out) q = v .range
 
   step-inv : (c : Call) → Typed c → LawfulCall (view t) c → Inv (tnext t c)
   unfolding view tnext
@@ -127,6 +128,7 @@ reply-balanced t (load bytes staging echo) = tt
 reply-balanced t (close time tables staging slots out) =
     choice ClosedBalanced (eqb (numberFor t (close time tables staging slots out)) 0) _ _
     (λ q. counts-balanced (t .settings) (t .tables) (eventsOf t)) (λ q. none-balanced)
+reply-balanced t (listing i time tables out) = tt
 
 replies-balanced : (cs : List Call) (t : Tally) → All ClosedBalanced (treplies t cs)
 unfolding treplies
@@ -150,6 +152,7 @@ taken-step w (load bytes g echo) =
 taken-step w (close time t g s out) =
     let n = closeNumber (w .state) (length (found t (w .tables))) (length (found g (w .staging))) (found s (w .slots)) (length out) in
     decide (eqb n 0) (λ q. rw q (omega arith)) (λ q. rw q (omega arith))
+taken-step w (listing i time t out) = omega arith
 
 taken-all : (cs : List Call) (w : World)
     → w .state .interval .taken + takenCalls cs (replies w cs) ≡ takenClosed (replies w cs) + after w cs .state .interval .taken
@@ -180,6 +183,7 @@ others-step w (close time t g s out) h =
       other-if t (w .tables) _ (eqb n 0) (λ q. and-left (isOwn t) (isOwn g && isOwn s) (k q)),
       other-if s (w .slots) _ (eqb n 0) (λ q. and-right (isOwn g) (isOwn s) (and-right (isOwn t) (isOwn g && isOwn s) (k q))),
     )
+others-step w (listing i time t out) h = tt
 
 others-all : (cs : List Call) (w : World) → Lawful w cs → EachKept w cs
 others-all [] w l = tt

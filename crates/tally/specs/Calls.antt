@@ -18,6 +18,7 @@ use Rattle.processor.specs.Reading.{readingDone}
 use Rattle.processor.specs.Line.{LineDone, lineDone}
 use Rattle.processor.specs.Package.{PackageDone, isStaged, packageDone}
 use Rattle.processor.specs.Close.{CloseDone, closeDone}
+use Rattle.processor.specs.Listing.{ListingDone, listingDone}
 
 -- a buffer is lent as the processor's own, the one used all along, or as another of any length and content
 pub data Lent : Type 0 where
@@ -45,17 +46,20 @@ pub data Call : Type 0 where
   line : (bytes echo : List ℕ) → Call
   load : (bytes : List ℕ) (staging : Lent) (echo : List ℕ) → Call
   close : (time : ℕ) (tables staging slots : Lent) (out : List ℕ) → Call
+  listing : (i time : ℕ) (tables : Lent) (out : List ℕ) → Call
 
 -- what is returned beside the state: "An answer is all that is returned beside the state"
 pub data Reply : Type 0 where
   answered : (number : ℕ) → Reply
   echoed : (number : ℕ) (echo : List ℕ) → Reply
   closed : (number taken : ℕ) (counts : Counts) (filled : ℕ) (out : List ℕ) → Reply
+  listed : (number : ℕ) (out : List ℕ) → Reply
 
 abbrev pub numberOf : Reply → ℕ
 numberOf (answered n) = n
 numberOf (echoed n echo) = n
 numberOf (closed n taken counts filled out) = n
+numberOf (listed n out) = n
 
 -- the state with the processor's own buffers
 pub record World : Type 0 where
@@ -85,7 +89,10 @@ loadIn w bytes g echo = packageDone (w .state) bytes (found g (w .staging)) echo
 abbrev pub closeIn : World → (time : ℕ) (tables staging slots : Lent) (out : List ℕ) → CloseDone
 closeIn w time t g s out = closeDone (w .state) time (found t (w .tables)) (found g (w .staging)) (found s (w .slots)) out
 
--- the world after a call
+abbrev pub listingIn : World → (i time : ℕ) → Lent → (out : List ℕ) → ListingDone
+listingIn w i time t out = listingDone (w .state) i time (found t (w .tables)) out
+
+-- the world after a call; "Listing changes nothing aboard"
 unfoldable pub next : World → Call → World
 next w (event t s e) = record {
   state = eventIn w t s e .answer .state;
@@ -112,6 +119,7 @@ next w (close time t g s out) = record {
   staging = w .staging;
   slots = kept s (w .slots) (closeIn w time t g s out .slots);
 }
+next w (listing i time t out) = w
 
 -- what the call answers
 abbrev pub closeReply : CloseDone → Reply
@@ -123,6 +131,7 @@ reply w (reading counts) = answered (readingIn w counts .number)
 reply w (line bytes echo) = echoed (lineIn w bytes echo .answer .number) (lineIn w bytes echo .echo)
 reply w (load bytes g echo) = echoed (loadIn w bytes g echo .answer .number) (loadIn w bytes g echo .echo)
 reply w (close time t g s out) = closeReply (closeIn w time t g s out)
+reply w (listing i time t out) = listed (listingIn w i time t out .number) (listingIn w i time t out .out)
 
 -- ---- lists of calls
 
@@ -141,6 +150,7 @@ owns (reading counts) = true
 owns (line bytes echo) = true
 owns (load bytes g echo) = isOwn g
 owns (close time t g s out) = isOwn t && (isOwn g && isOwn s)
+owns (listing i time t out) = isOwn t
 
 -- what the types of a call's arguments say: a reading has eight 16-bit counts
 abbrev pub Typed : Call → Type 0
@@ -149,6 +159,7 @@ Typed (reading counts) = (length counts ≡ 8) × EachBelow 65536 counts
 Typed (line bytes echo) = Unit {0}
 Typed (load bytes g echo) = Unit {0}
 Typed (close time t g s out) = Unit {0}
+Typed (listing i time t out) = Unit {0}
 
 -- a lawful list: no call that is answered 0 or 10 lends another buffer than the processor's own; refused calls may lend anything
 abbrev pub LawfulCall : World → Call → Type 0

@@ -17,8 +17,8 @@ use Rattle.samples.specs.Samples.{filled}
 use Rattle.packet.specs.Packet.{packetBytes}
 use Rattle.state.specs.Limits.{withinLimits}
 use Rattle.output.specs.Output.{samplePackets}
-use Rattle.tally.specs.Calls.{Lent, own, other, Call, event, reading, line, load, close, Reply, answered, echoed}
-use Rattle.tally.specs.Calls.{closed, numberOf, World, freshWorld, eventIn, loadIn, closeIn, next, reply, replies, after, Lawful}
+use Rattle.tally.specs.Calls.{Lent, own, other, Call, event, reading, line, load, close, listing, Reply, answered, echoed}
+use Rattle.tally.specs.Calls.{closed, listed, numberOf, World, freshWorld, eventIn, loadIn, closeIn, next, reply, replies, after, Lawful}
 use Rattle.tally.specs.Events.{isEligible, recordFor}
 use Rattle.tally.specs.Tally.{Tally, freshTally, eventsOf, countsOf, eligibles, ownSlots, tnext, treplies, tafter}
 use Rattle.tally.specs.View.{view}
@@ -90,6 +90,7 @@ abbrev pub ClosedBalanced : Reply → Type 0
 ClosedBalanced (answered n) = Unit {0}
 ClosedBalanced (echoed n echo) = Unit {0}
 ClosedBalanced (closed n taken counts filled out) = Balanced taken counts
+ClosedBalanced (listed n out) = Unit {0}
 
 -- "A closed interval has the counts its close returned and the slots in its packets"
 
@@ -111,6 +112,7 @@ ClosedRight t (answered n) = Unit {0}
 ClosedRight t (echoed n echo) = Unit {0}
 ClosedRight t (closed zero taken counts filled out) = ClosedInterval t taken counts filled out
 ClosedRight t (closed (suc n) taken counts filled out) = Unit {0}
+ClosedRight t (listed n out) = Unit {0}
 
 abbrev pub Intervals : Tally → World → List Call → Type 0
 Intervals t w [] = Unit {0}
@@ -123,6 +125,7 @@ takenOne (reading counts) r = 0
 takenOne (line bytes echo) r = 0
 takenOne (load bytes staging echo) r = 0
 takenOne (close time t g s out) r = 0
+takenOne (listing i time t out) r = 0
 
 unfoldable pub takenCalls : List Call → List Reply → ℕ
 takenCalls [] rs = 0
@@ -134,6 +137,7 @@ abbrev pub takenIn : Reply → ℕ
 takenIn (answered n) = 0
 takenIn (echoed n echo) = 0
 takenIn (closed n taken counts filled out) = taken
+takenIn (listed n out) = 0
 
 unfoldable pub takenClosed : List Reply → ℕ
 takenClosed [] = 0
@@ -152,6 +156,7 @@ OthersKept w (reading counts) = Unit {0}
 OthersKept w (line bytes echo) = Unit {0}
 OthersKept w (load bytes g echo) = OtherIs g (loadIn w bytes g echo .staging)
 OthersKept w (close time t g s out) = OtherIs t (closeIn w time t g s out .tables) × OtherIs s (closeIn w time t g s out .slots)
+OthersKept w (listing i time t out) = Unit {0}
 
 abbrev pub EachKept : World → List Call → Type 0
 EachKept w [] = Unit {0}

@@ -17,6 +17,8 @@ use Rattle.sample_record.specs.Record.{recordGood}
 use Rattle.sort.specs.declared.event.Event.{Event}
 use Rattle.sort.specs.Event.{inRange}
 use Rattle.counts.specs.declared.Counts.{Counts}
+use Rattle.packet.specs.Packet.{packetBytes}
+use Rattle.listing_packet.specs.Listing.{listingPackets, listingPacket}
 use Rattle.load.specs.declared.staging.Addresses.{Addresses}
 use Rattle.load.specs.Staging.{stagingBytes, packageChecks, stagingAfter, addressesAfter, freshAddresses}
 use Rattle.command.specs.declared.command.Line.{Line}
@@ -30,7 +32,8 @@ use Rattle.state.specs.Interval.{mostEvents, mostReadings, noCounts}
 use Rattle.processor.specs.Line.{commandChecks, addressesTold, toldEcho, echoBy}
 use Rattle.processor.specs.Package.{isStaged, stagedEcho}
 use Rattle.output.specs.Output.{outBytes, packetsOf}
-use Rattle.tally.specs.Calls.{Lent, found, Call, event, reading, line, load, close, Reply, answered, echoed, closed}
+use Rattle.tally.specs.Calls.{Lent, found, Call, event, reading, line, load, close, listing, Reply, answered, echoed, closed}
+use Rattle.tally.specs.Calls.{listed}
 use Rattle.tally.specs.Events.{countsBy, eligiblesBy, slotsBy}
 
 -- "waiting commands, how many were accepted"
@@ -137,6 +140,10 @@ checksFor t (close time tables staging slots out) = (
   cause.bufferOrState,
 )
     ∷ []
+checksFor t (listing i time tables out) =
+    (eqb (length (lentTables t tables)) tableBytes && eqb (length out) packetBytes, cause.bufferOrState)
+    ∷ (ltb i listingPackets, cause.notListed)
+    ∷ []
 
 unfoldable pub numberFor : Tally → Call → ℕ
 numberFor t c = numberBy (checksFor t c)
@@ -218,6 +225,7 @@ afterCall t (reading counts) = read t counts
 afterCall t (line bytes echo) = heard t (lineFor t bytes)
 afterCall t (load bytes staging echo) = staged t bytes
 afterCall t (close time tables staging slots out) = ended t
+afterCall t (listing i time tables out) = t
 
 -- the numbers of a call that changes something: 0, and for a package 10 ("a package answered 10, and only that one is placed")
 abbrev pub hasEffect : Call → (number : ℕ) → Bool
@@ -226,6 +234,7 @@ hasEffect (reading counts) n = eqb n cause.carriedOut
 hasEffect (line bytes echo) n = eqb n cause.carriedOut
 hasEffect (load bytes staging echo) n = isStaged n
 hasEffect (close time tables staging slots out) n = eqb n cause.carriedOut
+hasEffect (listing i time tables out) n = eqb n cause.carriedOut
 
 unfoldable pub tnext : Tally → Call → Tally
 tnext t c = cond (hasEffect c (numberFor t c)) (afterCall t c) t
@@ -244,6 +253,7 @@ replyBy n t (reading counts) = answered n
 replyBy n t (line bytes echo) = echoed n (echoBy n (toldEcho (frameOf t) (t .told .accepted) bytes) (refusedEcho bytes) echo)
 replyBy n t (load bytes staging echo) = echoed n (cond (isStaged n) (stagedEcho n (t .addresses .next) bytes) echo)
 replyBy n t (close time tables staging slots out) = cond (eqb n cause.carriedOut) (closedReply t time) (closed n 0 noCounts 0 out)
+replyBy n t (listing i time tables out) = listed n (cond (eqb n cause.carriedOut) (listingPacket (frameOf t) time i (t .tables)) out)
 
 unfoldable pub treply : Tally → Call → Reply
 treply t c = replyBy (numberFor t c) t c

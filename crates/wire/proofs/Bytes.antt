@@ -5,7 +5,9 @@ use Prim.Native.Nat.{ℕ, _+_, _-_, _*_, _/_, _%_, _≤_, _<_}
 use native.Mathlib.Omega.{arith}
 use native.Mathlib.Numerals.{add-one}
 use lib.ListN.{length, take, drop, getD, length-append, length-take, length-drop, replicate-append-replicate, drop-of-length-le}
+use lib.ListN.{List·getD-append}
 use lib.Seq.{sets, sets-eq, length-take-le, take-at, drop-at, drop-cons, take-suc, drop-drop, paste-zero}
+use lib.Seq.{getD-append-add, getD-take, getD-drop}
 use borrow.Rule.Slice.PartMut.{putMid, post-is}
 use Rattle.wire.specs.Bytes.{put, total, words, be32, zeros}
 
@@ -25,6 +27,40 @@ pub take-put : (vs xs : List ℕ) (at m : ℕ) → at + length vs ≡ m → m �
 unfolding put
 take-put vs xs at m e h =
     take-at (take at xs ++ vs) (drop (at + length vs) xs) m (simp (length-append, length-take) (omega arith))
+
+-- an element inside the run that is put, and one outside it
+pub put-inside : (vs xs : List ℕ) (at k : ℕ) → at ≤ length xs → k < length vs → getD (put xs at vs) (at + k) 0 ≡ getD vs k 0
+unfolding put
+put-inside vs xs at k h l =
+    let T : List ℕ = take at xs in
+    let D : List ℕ = drop (at + length vs) xs in
+    let lt : length T ≡ at = length-take-le at xs h in
+    List·getD-append (T ++ vs) D 0 (at + k) (simp (length-append, lt) (omega arith))
+    ∙ ap (λ (n : ℕ). getD (T ++ vs) (n + k) 0) (sym lt)
+    ∙ getD-append-add T vs k 0
+
+pub put-before : (vs xs : List ℕ) (at k : ℕ) → at ≤ length xs → k < at → getD (put xs at vs) k 0 ≡ getD xs k 0
+unfolding put
+put-before vs xs at k h l =
+    let T : List ℕ = take at xs in
+    let D : List ℕ = drop (at + length vs) xs in
+    let lt : length T ≡ at = length-take-le at xs h in
+    List·getD-append (T ++ vs) D 0 k (simp (length-append, lt) (omega arith))
+    ∙ List·getD-append T vs 0 k (omega arith)
+    ∙ getD-take at xs k 0 l
+
+pub put-behind : (vs xs : List ℕ) (at k : ℕ) → at ≤ length xs → at + length vs ≤ k → getD (put xs at vs) k 0 ≡ getD xs k 0
+unfolding put
+put-behind vs xs at k h l =
+    let T : List ℕ = take at xs in
+    let D : List ℕ = drop (at + length vs) xs in
+    let lt : length T ≡ at = length-take-le at xs h in
+    let n : ℕ = k - (at + length vs) in
+    let e : k ≡ length (T ++ vs) + n = simp (length-append, lt) (omega arith) in
+    ap (λ (m : ℕ). getD ((T ++ vs) ++ D) m 0) e
+    ∙ getD-append-add (T ++ vs) D n 0
+    ∙ getD-drop (at + length vs) xs n 0
+    ∙ ap (λ (m : ℕ). getD xs m 0) (omega arith)
 
 -- two runs, the second where the first ends, are one run
 pub put-put : (xs : List ℕ) (at : ℕ) (a b : List ℕ) (n : ℕ) → at + length a ≡ n → n ≤ length xs

@@ -24,6 +24,10 @@ and-assoc : (a b c : Bool) → ((a && b) && c) ≡ (a && (b && c))
 and-assoc true b c = refl
 and-assoc false b c = refl
 
+pub and-false : (a : Bool) → (a && false) ≡ false
+and-false true = refl
+and-false false = refl
+
 and-true : (a : Bool) → (a && true) ≡ a
 and-true true = refl
 and-true false = refl

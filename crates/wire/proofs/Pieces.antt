@@ -1,6 +1,6 @@
 -- Laws of lists made of numbered or equal pieces, or filled up to a length. Assumes nothing.
 use mathlib.Core.Path.{_≡_, refl, sym, ap, ap₂, _∙_}
-use mathlib.Core.Bool.{Bool, true, _&&_}
+use mathlib.Core.Bool.{Bool, true, false, _&&_}
 use mathlib.Core.List.{List, [], _∷_, _++_, append-assoc, append-nil}
 use Prim.Native.Nat.{ℕ, zero, suc, _+_, _-_, _*_, _≤_, _<_}
 use native.Mathlib.Omega.{arith}
@@ -10,12 +10,13 @@ use mathlib.Core.Logic.{⊎-elim}
 use lib.ListN.{length, take, getD, set, replicate, length-append, length-replicate, length-set, List·getD-append}
 use lib.Seq.{take-suc, take-suc-set, take-all, length-take-le, getD-append-add}
 use lib.Seq.{ext-getD, getD-at, set-append-seam, set-append-left, append-snoc}
+use Rattle.wire.specs.Bits.{bitOf}
 use Rattle.wire.specs.Bytes.{one, zeros, total, words, be32}
 use borrow.Author.Tests.{le-leb}
 use Rattle.wire.specs.Lists.{all, atMost}
 use Rattle.wire.proofs.Bytes.{total-append, zeros-more}
 use Rattle.wire.proofs.Lists.{and-split, all-append}
-use Rattle.wire.specs.Pieces.{runs, table, each, filledUp, padded}
+use Rattle.wire.specs.Pieces.{runs, table, each, countOf, filledUp, padded}
 
 -- ---- runs
 
@@ -158,6 +159,23 @@ module _ (p : ℕ → Bool) where
   unfolding each
   each-all zero h = refl
   each-all (suc n) h = rw (each-all n (λ i l. h i (omega arith)), h n (omega arith))
+
+-- ---- how many pass a test
+
+pub count-same : (n : ℕ) (p q : ℕ → Bool) → ((i : ℕ) → i < n → p i ≡ q i) → countOf n p ≡ countOf n q
+unfolding countOf
+count-same zero p q h = refl
+count-same (suc n) p q h = λ k. count-same n p q (λ i l. h i (omega arith)) k + bitOf (h n (omega arith) k)
+
+-- one turn of a loop that counts
+pub count-turn : (p : ℕ → Bool) {n r : ℕ} (i : ℕ) → n ≡ countOf i p → r ≡ bitOf (p i) → n + r ≡ countOf (i + 1) p
+unfolding countOf
+count-turn p i e q = rw add-one (λ k. e k + q k)
+
+pub count-none : (n : ℕ) → countOf n (λ i. false) ≡ 0
+unfolding countOf
+count-none zero = refl
+count-none (suc n) = rw (count-none n)
 
 -- ---- filled up
 

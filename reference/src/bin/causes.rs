@@ -3,7 +3,8 @@
 use std::collections::BTreeMap;
 use std::io::{stdin, BufRead, Result};
 
-const KINDS: [&str; 7] = ["event", "reading", "line", "close", "package", "packet", "refused"];
+const KINDS: [&str; 9] =
+    ["event", "reading", "line", "close", "package", "packet", "listing", "gather", "refused"];
 
 fn main() -> Result<()> {
     let mut answers: BTreeMap<u8, [u64; KINDS.len()]> = BTreeMap::new();

@@ -1,11 +1,13 @@
-//! Gives the five calls states at each limit and one beyond, buffers of the right length and
-//! one off, and slots of odd boxes: one line a case, its name and the numbers answered.
+//! Gives the processor calls states at each limit and one beyond, buffers of the right length
+//! and one off, and slots of odd boxes, and the gatherer buffers one off: one line a case, its
+//! name and the numbers answered.
 
 use reference::causes::Number;
 use reference::commands::{Settings, ECHO_BYTES};
+use reference::gatherer::Gatherer;
 use reference::limits::*;
 use reference::loads::{Addresses, STAGING_BYTES};
-use reference::packets::OUTPUT_BYTES;
+use reference::packets::{OUTPUT_BYTES, PACKET_BYTES};
 use reference::samples::{Samples, SLOTS};
 use reference::sorting::{Counts, Event, VALID_STOP};
 use reference::tables::TABLE_BYTES;
@@ -22,6 +24,8 @@ struct Lent {
     slots: Vec<u32>,
     echo: Vec<u8>,
     output: Vec<u8>,
+    /// For one packet.
+    out: Vec<u8>,
 }
 
 impl Lent {
@@ -32,6 +36,7 @@ impl Lent {
             slots: vec![0; SLOTS],
             echo: vec![0; ECHO_BYTES],
             output: vec![0; OUTPUT_BYTES],
+            out: vec![0; PACKET_BYTES],
         }
     }
 
@@ -50,18 +55,29 @@ impl Lent {
     fn close(mut self, s: &State) -> Number {
         close(s, 60, &mut self.tables, &self.staging, &mut self.slots, &mut self.output)
     }
+
+    fn listing(mut self, s: &State, i: u16) -> Number {
+        listing(s, i, 60, &self.tables, &mut self.out)
+    }
+
+    /// A fresh gatherer's answer.
+    fn gather(mut self, packet: &[u8]) -> Number {
+        let mut gatherer = Gatherer::FRESH;
+        gatherer.gather(packet, &mut self.tables)
+    }
 }
 
-/// All five calls for one state.
+/// All processor calls for one state.
 fn all(name: &str, s: &State) {
     let right = Lent::right;
     println!(
-        "{name} {} {} {} {} {}",
+        "{name} {} {} {} {} {} {}",
         right().event(s, &EVENT),
         reading(s, &[1; 8]),
         right().line(s, b"hv 1"),
         right().package(s, &PACKAGE),
-        right().close(s)
+        right().close(s),
+        right().listing(s, 249)
     );
 }
 
@@ -232,6 +248,7 @@ fn lengths() {
     let slots = [0, 703, 705].map(|n| (n, Lent { slots: vec![0; n], ..right.clone() }));
     let echoes = [0, 127, 129].map(|n| (n, Lent { echo: vec![0; n], ..right.clone() }));
     let outputs = [0, 3_535, 3_537].map(|n| (n, Lent { output: vec![0; n], ..right.clone() }));
+    let outs = [0, 271, 273].map(|n| (n, Lent { out: vec![0; n], ..right.clone() }));
     each("event-tables", &tables, |lent| lent.event(s, &EVENT));
     each("close-tables", &tables, |lent| lent.close(s));
     each("event-slots", &slots, |lent| lent.event(s, &EVENT));
@@ -241,6 +258,16 @@ fn lengths() {
     each("line-echo", &echoes, |lent| lent.line(s, b"hv 1"));
     each("package-echo", &echoes, |lent| lent.package(s, &EMPTY_PACKAGE));
     each("close-output", &outputs, |lent| lent.close(s));
+    each("listing-tables", &tables, |lent| lent.listing(s, 0));
+    each("listing-out", &outs, |lent| lent.listing(s, 0));
+    each("gather-tables", &tables, |lent| lent.gather(&listing_packet()));
+}
+
+/// Packet 0 of a table of zeros.
+fn listing_packet() -> Vec<u8> {
+    let mut lent = Lent::right();
+    listing(&fresh(), 0, 60, &lent.tables, &mut lent.out);
+    lent.out
 }
 
 fn each(name: &str, cases: &[(usize, Lent)], call: impl Fn(Lent) -> Number) {
@@ -263,6 +290,23 @@ fn lowest() {
         println!("line-hv-2{echo} {}", lent.clone().line(s, b"hv 2"));
         println!("empty-line{echo} {}", lent.clone().line(s, b""));
         println!("package-of-no-byte{staging} {}", lent.package(s, b""));
+    }
+    lowest_of_listing();
+}
+
+/// The same for listing packets, written and gathered.
+fn lowest_of_listing() {
+    let (s, right) = (&fresh(), Lent::right());
+    let out = Lent { out: vec![0; 271], ..right.clone() };
+    let tables = Lent { tables: vec![0; 62_984], ..right.clone() };
+    for (lent, name) in [(&out, "-out-271"), (&right, "")] {
+        for i in [249, 250, 256, 65_535] {
+            println!("listing-{i}{name} {}", lent.clone().listing(s, i));
+        }
+    }
+    for (lent, name) in [(&tables, "-tables-62984"), (&right, "")] {
+        println!("gather-of-no-byte{name} {}", lent.clone().gather(&[]));
+        println!("gather-packet-0{name} {}", lent.clone().gather(&listing_packet()));
     }
 }
 

@@ -1,6 +1,7 @@
-//! Packets for the reader: damaged ones, and changed ones that are still lawful.
+//! Packets for the reader and the gatherer: damaged ones, and changed ones that are still lawful.
 
 use crate::generate::Random;
+use crate::listing::*;
 use crate::packets::*;
 
 type Bytes = [u8; PACKET_BYTES];
@@ -10,7 +11,7 @@ const CODES: [u16; 10] = [0, 1, 0x07FF, 0x0800, 0x0FFF, 0x1800, 0x1FFF, 0x2800, 
 const WRONG_CODES: [u16; 12] =
     [0x1000, 0x1001, 0x17FF, 0x2000, 0x27FF, 0xC000, 0xC7FF, 0xD000, 0xD7FF, 0xD800, 0xF800, 0xFFFF];
 
-/// The packet changed somehow: most of these are refused, by 11, 12 or 13.
+/// The packet changed somehow: most of these are refused, by 11 to 14.
 pub fn changed(random: &mut Random, mut packet: Bytes) -> Vec<u8> {
     match random.below(12) {
         0 => return wrong_length(random, packet),
@@ -61,40 +62,77 @@ fn header_fault(random: &mut Random, packet: &mut Bytes) {
 fn body_fault(random: &mut Random, packet: &mut Bytes) {
     let some = random.pick(&[1, 2, 16, 128, 255]);
     match number(packet) {
-        RATE => match random.below(8) {
-            0..=2 => wrong_code(random, packet, 124),
-            3 => packet[259] = some,
-            4 => packet[261] |= 1 << random.below(4),
-            5 => packet[random.pick(&[269, 270])] = some,
-            6 => put(packet, 262, 705),
-            _ => put(packet, 262, random.between(705, 65_535) as u16),
-        },
-        BEACON => match random.below(4) {
-            0 => wrong_code(random, packet, 12),
-            1 => packet[random.pick(&[35, 266, 269, 270])] = some,
-            _ => packet[random.between(35, 266) as usize] = some,
-        },
-        _ => match random.below(6) {
-            0 => packet[269] = packet[269].wrapping_add(some),
-            1 => put(packet, 0, 1 << 11 | random.between(606, 616) as u16),
-            2 => packet[270] = some,
-            _ => {
-                let any = random.between(117, 127) as u32;
-                let b = random.pick(&[0, 1, 5, 117, 127, any]);
-                put_record(random, packet, b);
-            }
-        },
+        RATE => rate_fault(random, packet, some),
+        BEACON => beacon_fault(random, packet, some),
+        LISTING => listing_fault(random, packet, some),
+        _ => sample_fault(random, packet, some),
     }
 }
 
-/// Any sequence count, time and frame; other rates, settings and records.
+fn rate_fault(random: &mut Random, packet: &mut Bytes, some: u8) {
+    match random.below(8) {
+        0..=2 => wrong_code(random, packet, 124),
+        3 => packet[259] = some,
+        4 => packet[261] |= 1 << random.below(4),
+        5 => packet[random.pick(&[269, 270])] = some,
+        6 => put(packet, 262, 705),
+        _ => put(packet, 262, random.between(705, 65_535) as u16),
+    }
+}
+
+fn beacon_fault(random: &mut Random, packet: &mut Bytes, some: u8) {
+    match random.below(4) {
+        0 => wrong_code(random, packet, 12),
+        1 => packet[random.pick(&[35, 266, 269, 270])] = some,
+        _ => packet[random.between(35, 266) as usize] = some,
+    }
+}
+
+fn sample_fault(random: &mut Random, packet: &mut Bytes, some: u8) {
+    match random.below(6) {
+        0 => packet[269] = packet[269].wrapping_add(some),
+        1 => put(packet, 0, 1 << 11 | random.between(606, 616) as u16),
+        2 => packet[270] = some,
+        _ => {
+            let any = random.between(117, 127) as u32;
+            let b = random.pick(&[0, 1, 5, 117, 127, any]);
+            put_record(random, packet, b);
+        }
+    }
+}
+
+/// An address that is none of the 250, or a byte that must be zero, or both.
+fn listing_fault(random: &mut Random, packet: &mut Bytes, some: u8) {
+    let kind = random.below(6);
+    if kind <= 2 {
+        let i = random.below(LISTING_PACKETS);
+        let between = first_address(i) + random.between(1, 83) as usize;
+        let any = random.below(1 << 24);
+        let (below, beyond) = (0x7000 - 84, 0xC1B4 + 84);
+        let wrong = [between, below, beyond, 0x6FFF, 0x7001, 0xC1B5, 0xC202, 0x1_7000, 0, any];
+        put_address(packet, random.pick(&wrong));
+    }
+    match kind {
+        0 | 1 => {}
+        2 | 3 => packet[random.between(11, 13) as usize] = some,
+        _ => {
+            // Behind the 79 words of the last packet.
+            put_address(packet, first_address(LISTING_PACKETS - 1));
+            packet[256..271].fill(0);
+            packet[random.between(256, 270) as usize] = some;
+        }
+    }
+}
+
+/// Any sequence count, time and frame; other rates, settings, records and words.
 fn lawful_change(random: &mut Random, packet: &mut Bytes) {
     if random.percent(50) {
         let any = random.bits().to_be_bytes();
         packet[2] = 0xC0 | any[0];
         packet[3] = any[1];
         packet[6..10].copy_from_slice(&any[2..6]);
-        packet[267..269].copy_from_slice(&any[6..]);
+        let frame = if number(packet) == LISTING { 14 } else { 267 };
+        packet[frame..frame + 2].copy_from_slice(&any[6..]);
     }
     match number(packet) {
         RATE => {
@@ -105,6 +143,7 @@ fn lawful_change(random: &mut Random, packet: &mut Bytes) {
             (0..random.below(30)).for_each(|_| lawful_code(random, packet, 124));
         }
         BEACON => (0..random.below(5)).for_each(|_| lawful_code(random, packet, 12)),
+        LISTING => other_words(random, packet),
         _ => {
             for _ in 0..random.below(30) {
                 let any = random.between(6, 116) as u32;
@@ -115,6 +154,22 @@ fn lawful_change(random: &mut Random, packet: &mut Bytes) {
                 packet[11..267].fill(0);
             }
         }
+    }
+}
+
+/// A listing packet of another table, otherwise right.
+pub fn of_another_table(random: &mut Random, packet: &mut Bytes) {
+    other_words(random, packet);
+    packet[271] = packet_sum(packet);
+}
+
+/// Words of another table, sometimes at another of the 250 addresses.
+fn other_words(random: &mut Random, packet: &mut Bytes) {
+    for _ in 0..=random.below(3) {
+        packet[random.between(19, 255) as usize] ^= random.between(1, 255) as u8;
+    }
+    if random.percent(20) {
+        put_address(packet, first_address(random.below(LISTING_PACKETS)));
     }
 }
 
@@ -142,6 +197,10 @@ fn put_record(random: &mut Random, packet: &mut Bytes, b: u32) {
 
 fn number(packet: &Bytes) -> u16 {
     u16::from_be_bytes([packet[0], packet[1]]) % 2_048
+}
+
+fn put_address(packet: &mut Bytes, address: usize) {
+    packet[16..19].copy_from_slice(&(address as u32).to_be_bytes()[1..]);
 }
 
 fn put(packet: &mut Bytes, at: usize, value: u16) {

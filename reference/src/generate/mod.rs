@@ -1,10 +1,11 @@
 //! A seeded generator of streams for `replay` and `minute`: realistic and wild tables,
-//! and calls that are right and wrong in every way document 01 names. The same seed
+//! and calls that are right and wrong in every way the papers name. The same seed
 //! gives the same bytes on every machine.
 
 pub mod damage;
 pub mod flight;
 pub mod lines;
+pub mod listings;
 pub mod random;
 pub mod stories;
 pub mod stream;

@@ -28,7 +28,7 @@ impl Stream {
     }
 
     fn story(&mut self) {
-        match self.random.below(100) {
+        match self.random.below(110) {
             0..=29 => self.events_up_to(30),
             30..=36 => self.readings_up_to(4),
             37..=51 => self.lines_up_to(6),
@@ -42,7 +42,10 @@ impl Stream {
             96 => self.staging_to_the_end(),
             97 => self.new_tables(),
             98 => self.busy_interval(),
-            _ => self.settings(),
+            99 => self.settings(),
+            100..=103 => self.listings_up_to(8),
+            104..=108 => self.gather_some(),
+            _ => self.gather_all(),
         }
     }
 
@@ -430,8 +433,11 @@ impl Stream {
         for _ in 0..=self.random.below(12) {
             let any = self.random.below(13);
             let k = self.random.pick(&[0, 12, any]);
-            let packet = self.written(k);
-            let packet = damage::changed(&mut self.random, packet);
+            let written = self.written(k);
+            let packet = match self.random.below(20) {
+                0 => self.listing_to_read(), // refused by 11
+                _ => damage::changed(&mut self.random, written),
+            };
             self.call(Call::Packet(packet));
         }
     }
@@ -441,16 +447,19 @@ impl Stream {
     /// An unknown kind or a body that is too short.
     fn bad_record(&mut self) {
         if self.random.percent(30) {
-            let kinds: &[u8] = if self.form == Form::Minute { &[0, 5, 6, 255] } else { &[0, 7, 255] };
+            let kinds: &[u8] =
+                if self.form == Form::Minute { &[0, 5, 6, 7, 8, 9, 255] } else { &[0, 10, 255] };
             self.bytes.push(self.random.pick(kinds));
             return;
         }
-        let call = match self.random.below(6) {
+        let call = match self.random.below(8) {
             0 => Call::Event(self.any_event()),
             1 => Call::Reading([1; 8]),
             2 => Call::Close(60),
             3 => Call::Package(vec![0, 2, 0, 0]),
             4 => Call::Packet(self.written(0).to_vec()),
+            5 => Call::Listing(0, 60),
+            6 => Call::Gather(self.station.listed.to_vec()),
             _ => Call::Line(b"hv 1".to_vec()),
         };
         let from = self.bytes.len();

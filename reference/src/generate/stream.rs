@@ -20,6 +20,8 @@ pub struct Stream {
     pub aimed: Vec<Event>,
     pub bytes: Vec<u8>,
     pub calls: usize,
+    /// How many of them are `gathered` records.
+    pub gathered: usize,
     /// No more calls than these are written.
     pub most: usize,
     pub time: u32,
@@ -47,6 +49,7 @@ impl Stream {
             aimed,
             bytes: Vec::new(),
             calls: 0,
+            gathered: 0,
             most: usize::MAX,
             time,
         }
@@ -67,6 +70,9 @@ impl Stream {
             Ok(Some(Call::Close(time))) => drop(self.station.close(time)),
             Ok(Some(Call::Package(package))) => drop(self.station.package(&package)),
             Ok(Some(Call::Packet(_))) => {}
+            Ok(Some(Call::Listing(i, time))) => drop(self.station.listing(i, time)),
+            Ok(Some(Call::Gather(packet))) => drop(self.station.gather(&packet)),
+            Ok(Some(Call::Gathered)) => self.station.gather_anew(),
             Ok(None) | Err(_) => unreachable!("a record just written"),
         }
     }

@@ -6,6 +6,7 @@ use Rattle.replay.proofs.CallLaws.{
   line-leaves,
   close-leaves,
   package-leaves,
+  listing-leaves,
   other-leaves,
 }
 use borrow.Author.Needs.{needs}
@@ -16,19 +17,25 @@ event-requires : tie.Need-event-requires
 event-requires c κs =
     let m = c .before .before .before .before in
     let s = m .before .before .before .before .before .before .before in
-    s .pre .0 (m .match .keys1)
+    s .pre .0 .0 (m .match .keys1)
 
 reading-requires : tie.Need-reading-requires
 reading-requires c κs =
     let m = c .before .before in
     let s = m .before .before .before .before .before .before .before in
-    s .pre .1 (m .match .keys2)
+    s .pre .0 .1 (m .match .keys2)
 
 close-requires : tie.Need-close-requires
 close-requires c κs =
     let m = c .before .before .before .before .before in
     let s = m .before .before .before .before .before .before .before in
-    s .pre .2 (m .match .keys4)
+    s .pre .0 .2 (m .match .keys4)
+
+listing-requires : tie.Need-listing-requires
+listing-requires c κs =
+    let m = c .before .before .before in
+    let s = m .before .before .before .before .before .before .before in
+    s .pre .1 (m .match .keys6)
 
 returns : tie.Need-returns
 returns c =
@@ -66,7 +73,12 @@ returns-5 c =
 
 returns-6 : tie.Need-returns-6
 returns-6 c =
-    let r = c .before .before .before .before .before .match .rest in
+    let k = c .before .before .before .before .before .before .match .keys6 in
+    listing-leaves _ _ _ _ _ _ _ _ k refl
+
+returns-7 : tie.Need-returns-7
+returns-7 c =
+    let r = c .match .rest .0 in
     other-leaves _ _ _ _ _ _ _ _ (r .0 .0 .0 .0 .1, r .0 .0 .0 .1, r .0 .0 .1, r .0 .1, r .1) refl
 
 pub carry-out-spec : {M : Type 1} → statement M
@@ -78,7 +90,7 @@ carry-out-spec =
     (λ c κs. search needs)
     close-requires
     (λ c κs. search needs)
-    (λ c κs. search needs)
+    listing-requires
     (λ c. search needs)
     (λ c. search needs)
     (λ c. search needs)
@@ -98,4 +110,6 @@ carry-out-spec =
     (λ c. search needs)
     returns-5
     (λ c. search needs)
-    returns-6)
+    (λ c. search needs)
+    returns-6
+    returns-7)

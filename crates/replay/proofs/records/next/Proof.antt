@@ -38,7 +38,7 @@ whole-requires c κs =
     let b = c .before .before .before in
     let f = b .before .before .before .before .before .before .before .before in
     let e = f .fill .ensures in
-    (e .0, (omega (arith, b .fixed-bytes .ensures .0), (omega (arith, e .0), refl)))
+    (e .0, (omega (arith, b .body-bytes .ensures .0), (omega (arith, e .0), refl)))
 
 returns-4 : tie.Need-returns-4
 returns-4 c =
@@ -52,7 +52,7 @@ returns-4 c =
     let r = w .whole .result in
     let e = w .whole .ensures in (
       found-then r (waitingIn (a .input) (now (a .buffer))) _ _ (f .fill .ensures .1) (e .0),
-      own-long k _ r _ t (b .fixed-bytes .ensures .1) (e .1),
+      own-long k _ r _ t (b .body-bytes .ensures .1) (e .1),
     )
 
 pub next-spec : {M : Type 1} → statement M

@@ -1,0 +1,27 @@
+// The answers to a listing and a gather, and what was gathered, printed.
+use crate::calls::print_buffer;
+use crate::calls::print_number;
+use crate::close::print_out;
+
+// The packet is printed only where it was written.
+pub fn print_listing(text: &mut [u8], at: &mut usize, number: u8, packet: &[u8]) {
+    buffered::text::bytes(text, at, b"listing");
+    print_number(text, at, number);
+    if number == causes::CARRIED_OUT {
+        print_out(text, at, packet);
+    }
+}
+
+// The number, and how many packets are missing then.
+pub fn print_gather(text: &mut [u8], at: &mut usize, number: u8, missing: usize) {
+    buffered::text::bytes(text, at, b"gather");
+    buffered::text::number(text, at, number as u64);
+    buffered::text::number(text, at, missing as u64);
+    buffered::text::line_end(text, at);
+}
+
+// How many packets are missing, and the whole table buffer.
+pub fn print_gathered(text: &mut [u8], at: &mut usize, missing: usize, table: &[u8]) {
+    buffered::text::bytes(text, at, b"gathered");
+    print_buffer(text, at, missing as u64, table);
+}

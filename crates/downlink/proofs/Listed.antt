@@ -1,0 +1,25 @@
+-- The ground gathers each listing packet that is written. Assumes nothing.
+use mathlib.Core.Path.{_≡_, refl}
+use mathlib.Core.List.{List}
+use Prim.Native.Nat.{ℕ, _<_}
+use borrow.Author.Tests.{eq-eqb}
+use lib.ListN.{length}
+use Rattle.tables.specs.Tables.{tableBytes}
+use Rattle.listing_packet.specs.Listing.{listingPackets, listingPacket}
+use Rattle.listing_packet.proofs.Listed.{listing-accepted}
+use Rattle.processor.specs.Listing.{listingDone}
+use Rattle.processor.proofs.CallLaws.{listing-lists}
+use Rattle.downlink.specs.Downlink.{Listed, ListingReceived}
+
+pub listing-listed : (frame time i : ℕ) → i < listingPackets → (tables : List ℕ) → length tables ≡ tableBytes
+    → Listed tables i (listingPacket frame time i tables)
+listing-listed frame time i h tables lt = record {
+  of-tables = record { frame = frame; time = time; packet-is = refl };
+  accepted = listing-accepted frame time i h tables lt;
+}
+
+pub listing-received : ListingReceived
+unfolding listingDone
+listing-received s i time tables out z =
+    let p = listing-lists s i (length tables) (length out) z in
+    rw (eq-eqb _ _ z) (listing-listed (s .frame) time i (p .listed) tables (p .tables-are))
