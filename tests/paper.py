@@ -81,8 +81,8 @@ class Sorted(NamedTuple):
 
 
 def mass_column(u):
-    # "f_m = floor(9u / 32,768)". Python's // goes towards minus infinity, as the paper's floor.
-    return 9 * u // 32768
+    # "f_m is now floor(u / 3,584)" (document 02, Point 2). Python's // goes towards minus infinity, as the paper's floor.
+    return u // 3584
 
 
 def energy_column(ktof, tof):

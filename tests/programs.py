@@ -230,6 +230,16 @@ LOW_CELL, KLO = 0x8000 + 88, 0xC201
 SORTED = tables([(CELL, (128 + 60) << 16), (LOW_CELL, 61 << 16), (KLO, 65536)])
 
 
+def columns():
+    """The mass column at its edges (document 02, Point 2): u is the energy word less one, and f_e is 88."""
+    edges = {-1: None, 0: 10, 3583: 10, 3584: 11, 458751: 12, 458752: None}
+    words = [(0x7000 + k, u + 1) for k, u in enumerate(edges, 1)] + [(0xC200, 65537)]
+    words += [(0x8000 + 128 * f + 88, b << 16) for f, b in ((0, 10), (1, 11), (127, 12))]
+    stream = b"".join(event(high=k) for k in range(1, len(edges) + 1)) + close()
+    counts = [(1, 4), (3, 6), (6, 2), (10, 2), (11, 1), (12, 1)]
+    check("replay: the mass column's edges", without_packets(run("replay", stream, tables(words))), ["event 0"] * 6 + closed(0, 6, 4, counts))
+
+
 def record(t, channel, gain, box, priority):
     return pack(t, channel, 0, 0, gain, 0, box, priority)
 
@@ -537,7 +547,7 @@ def interrupted():
             check(f"{program}: interrupted, no tables.bin", printed + line, ["refused 1"])
 
 
-for case in (start_and_end, ranges, million, samples, readings, commands, zero_bytes, long_bodies, loads, packets, listings, gathers, example, frames, pieces,
+for case in (start_and_end, ranges, million, columns, samples, readings, commands, zero_bytes, long_bodies, loads, packets, listings, gathers, example, frames, pieces,
              pieces_of_minute, held_open, failed_reads, failed_writes, interrupted):
     case()
 print(f"{counts['passed']} passed, {counts['failed']} failed")

@@ -359,7 +359,7 @@ def command_cases():
 # ---- "Numbers at the edges", to which paper.py is held
 
 CODES = {4095: 0x0FFF, 4096: 0x1800, 4097: 0x1800, 8191: 0x1FFF, 8192: 0x2800, 1000000: 0x8F42, 16777215: 0xCFFF}
-COLUMNS = {-1: -1, 0: 0, 3640: 0, 3641: 1, 466033: 127, 466034: 128}
+COLUMNS = {-1: -1, 0: 0, 3583: 0, 3584: 1, 458751: 127, 458752: 128}
 
 
 def edges():

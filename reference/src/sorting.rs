@@ -72,10 +72,10 @@ impl Counts {
     }
 }
 
-/// f_m of rule 3: 9u / 32,768 towards minus infinity.
+/// f_m of rule 3, by document 02, Point 2: u / 3,584 towards minus infinity.
 #[inline]
 pub fn mass_column(u: i32) -> i32 {
-    (9 * u).div_euclid(32_768)
+    u.div_euclid(3_584)
 }
 
 /// f_e of rule 3: the numerator / 4,096 towards minus infinity.
@@ -146,7 +146,7 @@ mod tests {
 
     #[test]
     fn mass_columns_at_the_edges() {
-        let edges = [(-1, -1), (0, 0), (3_640, 0), (3_641, 1), (466_033, 127), (466_034, 128)];
+        let edges = [(-1, -1), (0, 0), (3_583, 0), (3_584, 1), (458_751, 127), (458_752, 128)];
         for (u, column) in edges {
             assert_eq!(mass_column(u), column, "u = {u}");
         }
@@ -232,6 +232,11 @@ mod tests {
         assert_eq!(sort(&STOP, &tables, &Settings::FRESH), Some(out));
         set_word(&mut tables, KHI, 65_536);
         assert_eq!(sort(&STOP, &tables, &Settings::FRESH).unwrap().b, 7);
+        // With this Khi u is the energy word: the last one within the columns, and the next.
+        set_word(&mut tables, HIGH_ENERGY, 458_751);
+        assert_eq!(sort(&STOP, &tables, &Settings::FRESH).unwrap().b, 7);
+        set_word(&mut tables, HIGH_ENERGY, 458_752);
+        assert_eq!(sort(&STOP, &tables, &Settings::FRESH), Some(out));
     }
 
     #[test]

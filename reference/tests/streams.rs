@@ -12,6 +12,7 @@ use reference::reader;
 use reference::samples::SLOTS;
 use reference::sorting::{eligible, record, sort, Event, Sorted};
 use reference::station::Station;
+use reference::tables::*;
 
 fn stream(seed: u64, calls: usize, form: Form) -> Stream {
     let mut stream = Stream::new(seed, form);
@@ -98,6 +99,34 @@ fn balances_and_samples_of_every_interval() {
             true
         });
     }
+}
+
+#[test]
+fn u_meets_the_edges_of_every_mass_column() {
+    let edges = (0..=128).flat_map(|column| [-1, 0, 1].map(|near| 3_584 * column + near));
+    let mut unmet: BTreeSet<i32> = edges.collect();
+    for seed in (1..40).step_by(2) {
+        carried_out(seed, |station, call| {
+            let Call::Event(event) = call else {
+                return false;
+            };
+            if station.event(event) == 0 {
+                u_of(event, station).map(|u| unmet.remove(&u));
+            }
+            true
+        });
+    }
+    assert!(unmet.is_empty(), "{unmet:?}");
+}
+
+/// u = E - K + T - Ktof + 65,536 of an event that is not discarded.
+fn u_of(event: &Event, station: &Station) -> Option<i32> {
+    let tables = station.tables.as_slice().try_into().unwrap();
+    let s = sort(event, tables, &station.processor.settings)?;
+    let (energies, offset) = if s.gain == 0 { (HIGH_ENERGY, KHI) } else { (LOW_ENERGY, KLO) };
+    let e = word(tables, energies + s.channel as usize) - word(tables, offset);
+    let t = word(tables, TIME_OF_FLIGHT + event.t as usize) - word(tables, KTOF);
+    Some(e + t + 65_536)
 }
 
 /// The gatherer's buffer and how many are missing, from all packets it accepted.

@@ -4,7 +4,7 @@ use mathlib.Core.Bool.{Bool, true, false, cond}
 use Prim.Native.Nat.{ℕ, zero, suc, _+_, _-_, _*_, _/_, _^_, _≤_, _<_}
 use lib.Dec.{leb, ltb}
 use native.Mathlib.Omega.{arith}
-use lib.IntN.{ℤ, pos, negsuc, negℤ, subℕ, _+ℤ_, _-ℤ_, _*ℤ_, +ℤ-assoc, +ℤ-comm, negℤ-+ℤ}
+use lib.IntN.{ℤ, pos, negsuc, negℤ, subℕ, _+ℤ_, _-ℤ_, +ℤ-assoc, +ℤ-comm, negℤ-+ℤ}
 use lib.Signed.{nonNeg}
 use mir.Syntax.{w32}
 use mir.Val.{SFits, toZ, ofZ}
@@ -38,26 +38,6 @@ sub-as : (a b : ℕ) → pos a -ℤ pos b ≡ subℕ a b
 sub-as a zero = rw (le-ltb a 0 (omega arith)) (ap pos (omega arith))
 sub-as a (suc b) = refl
 
--- nine times a difference
-nine : (a b : ℕ) → pos 9 *ℤ subℕ a b ≡ subℕ (9 * a) (9 * b)
-nine a b = go (ltb a b) refl
-  where
-    below : a < b → pos 9 *ℤ subℕ a b ≡ subℕ (9 * a) (9 * b)
-    below h =
-        let e : 9 * suc (b - suc a) ≡ suc (9 * b - suc (9 * a)) = omega arith in
-        let k : 9 * a < 9 * b = omega arith in
-        rw (lt-ltb a b h, lt-ltb (9 * a) (9 * b) k) (ap (λ (x : ℕ). negℤ (pos x)) e)
-
-    above : b ≤ a → pos 9 *ℤ subℕ a b ≡ subℕ (9 * a) (9 * b)
-    above h =
-        let e : 9 * (a - b) ≡ 9 * a - 9 * b = omega arith in
-        let k : 9 * b ≤ 9 * a = omega arith in
-        rw (le-ltb a b h, le-ltb (9 * a) (9 * b) k) (ap pos e)
-
-    go : (t : Bool) → ltb a b ≡ t → pos 9 *ℤ subℕ a b ≡ subℕ (9 * a) (9 * b)
-    go true q = below (ltb-true a b q)
-    go false q = above (ltb-false a b q)
-
 swap : (x y z : ℤ) → (x +ℤ y) +ℤ z ≡ (x +ℤ z) +ℤ y
 swap x y z = +ℤ-assoc x y z ∙ (ap (λ (v : ℤ). x +ℤ v) (+ℤ-comm y z) ∙ sym (+ℤ-assoc x z y))
 
@@ -74,10 +54,9 @@ u-sub e k t f = regroup (pos e) (pos k) (pos t) (pos f) (pos 65536) ∙ sub-as (
 
 -- ---- the columns, as quotients of differences of plain numbers
 
-pub mass-sub : (e k t f : ℕ) → massColumn (uOf e k t f) ≡ floorZ (subℕ (9 * (e + t + 65536)) (9 * (k + f))) 32768
+pub mass-sub : (e k t f : ℕ) → massColumn (uOf e k t f) ≡ floorZ (subℕ (e + t + 65536) (k + f)) 3584
 unfolding massColumn
-mass-sub e k t f =
-    ap massColumn (u-sub e k t f) ∙ ap (λ (z : ℤ). floorZ z 32768) (nine (e + t + 65536) (k + f))
+mass-sub e k t f = ap massColumn (u-sub e k t f)
 
 pub energy-sub : (t f : ℕ) → energyColumn t f ≡ floorZ (subℕ (f + 360448) t) 4096
 unfolding energyColumn
@@ -89,15 +68,9 @@ pub floor-sign : (n : ℤ) (d : ℕ) → nonNeg (floorZ n d) ≡ nonNeg n
 floor-sign (pos a) d = refl
 floor-sign (negsuc a) d = refl
 
-nine-sign : (u : ℤ) → nonNeg (pos 9 *ℤ u) ≡ nonNeg u
-nine-sign (pos a) = refl
-nine-sign (negsuc a) =
-    let e : 9 * suc a ≡ suc (9 * a + 8) = omega arith in
-    ap (λ (x : ℕ). nonNeg (negℤ (pos x))) e
-
 pub mass-sign : (u : ℤ) → nonNeg (massColumn u) ≡ nonNeg u
 unfolding massColumn
-mass-sign u = floor-sign (pos 9 *ℤ u) 32768 ∙ nine-sign u
+mass-sign u = floor-sign u 3584
 
 pub energy-sign : (t f : ℕ) → nonNeg (energyColumn t f) ≡ nonNeg (pos f +ℤ pos 360448 -ℤ pos t)
 unfolding energyColumn
@@ -117,11 +90,11 @@ floor-between a b d low high h k = go (ltb a b) refl
     go true q = rw (sub-below a b (ltb-true a b q)) h
     go false q = rw (sub-above a b (ltb-false a b q)) k
 
--- f_m is from -9,198 to 9,233
-pub mass-range : (e k t f : ℕ) → e < 2 ^ 24 → k < 2 ^ 24 → t < 2 ^ 24 → f < 2 ^ 24 → Between 9197 9233 (massColumn (uOf e k t f))
+-- f_m is from -9,344 to 9,380
+pub mass-range : (e k t f : ℕ) → e < 2 ^ 24 → k < 2 ^ 24 → t < 2 ^ 24 → f < 2 ^ 24 → Between 9343 9380 (massColumn (uOf e k t f))
 mass-range e k t f he hk ht hf =
     rw (mass-sub e k t f)
-    (floor-between (9 * (e + t + 65536)) (9 * (k + f)) 32768 9197 9233 (omega arith) (omega arith))
+    (floor-between (e + t + 65536) (k + f) 3584 9343 9380 (omega arith) (omega arith))
 
 -- f_e is from -4,008 to 4,183
 pub energy-range : (t f : ℕ) → t < 2 ^ 24 → f < 2 ^ 24 → Between 4007 4183 (energyColumn t f)

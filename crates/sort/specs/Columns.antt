@@ -3,7 +3,7 @@ use mathlib.Core.Bool.{cond}
 use mathlib.Core.List.{List, [], _∷_}
 use Prim.Native.Nat.{ℕ, _/_}
 use lib.Dec.{leb}
-use lib.IntN.{ℤ, pos, negsuc, _+ℤ_, _-ℤ_, _*ℤ_}
+use lib.IntN.{ℤ, pos, negsuc, _+ℤ_, _-ℤ_}
 use Rattle.sort.specs.declared.columns.Column.{Column}
 use Rattle.sort.specs.declared.columns.Column.the-variants.{Inside, Outside}
 
@@ -16,9 +16,9 @@ floorZ (negsuc a) d = negsuc (a / d)
 abbrev pub uOf : (e k t ktof : ℕ) → ℤ
 uOf e k t ktof = pos e -ℤ pos k +ℤ pos t -ℤ pos ktof +ℤ pos 65536
 
--- "f_m = floor(9u / 32,768)". Other files go by the laws of this name alone
+-- "f_m is now floor(u / 3,584)" (document 02, Point 2). Other files go by the laws of this name alone
 unfoldable pub massColumn : ℤ → ℤ
-massColumn u = floorZ (pos 9 *ℤ u) 32768
+massColumn u = floorZ u 3584
 
 -- "f_e = floor((Ktof + 360,448 − T) / 4,096)"
 unfoldable pub energyColumn : (t ktof : ℕ) → ℤ
@@ -29,7 +29,8 @@ unfoldable pub bounded : ℤ → Column
 bounded (pos a) = cond (leb a 127) (Inside a) Outside
 bounded (negsuc a) = Outside
 
--- "f_m*: u −1 → −1, 0 → 0, 3,640 → 0, 3,641 → 1, 466,033 → 127, 466,034 → 128": u, and its column
+-- "At u = 3,584 the column .. is 1; at 458,751 it is 127 and at 458,752 out of bounds .. and by −1 (column −1), 0 and 3,583 (column 0)"
+-- (document 02, Point 2): u, and its column
 abbrev pub columnCases : List (ℤ × ℤ)
 columnCases =
-    (negsuc 0, negsuc 0) ∷ (pos 0, pos 0) ∷ (pos 3640, pos 0) ∷ (pos 3641, pos 1) ∷ (pos 466033, pos 127) ∷ (pos 466034, pos 128) ∷ []
+    (negsuc 0, negsuc 0) ∷ (pos 0, pos 0) ∷ (pos 3583, pos 0) ∷ (pos 3584, pos 1) ∷ (pos 458751, pos 127) ∷ (pos 458752, pos 128) ∷ []

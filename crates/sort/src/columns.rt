@@ -30,7 +30,7 @@ pub fn mass_column(e: u32, k: u32, t: u32, ktof: u32) -> i32
     requires { ⌜ (e < 16777216) × (k < 16777216) × (t < 16777216) × (ktof < 16777216) ⌝ }
     ensures { λ r. ⌜ r ≡ massColumn (uOf e k t ktof) ⌝ }
 {
-    floor_div(difference(9 * (e + t + 65536), 9 * (k + ktof)), 32768)
+    floor_div(difference(e + t + 65536, k + ktof), 3584)
 }
 
 // The energy column, of the time-of-flight word and its offset.

@@ -1,4 +1,4 @@
-//! Realistic tables and particles: formulas A1-5 to A1-7 of source document 000, with the
+//! Realistic tables and particles: formulas A1-5 to A1-9 of source document 000, with the
 //! boxes of its Appendix 3 and the beacons of its Appendix 4.
 
 use crate::generate::Random;
@@ -131,11 +131,11 @@ pub fn tables() -> Vec<u8> {
     for offset in [KHI, KLO, KTOF] {
         set_word(&mut tables, offset, scaled(0.0));
     }
-    // The matrix, by the middle of each cell: document 01's f_m is 18 (ln mass + 1),
-    // 9 / 64 standing for one seventh, and f_e is 16 (ln energy + 5.5).
+    // The matrix, by the middle of each cell: f_m is (ln mass + 1) 128 / 7, A1-8 as printed,
+    // and f_e is 16 (ln energy + 5.5), A1-9.
     for f_m in 0..128 {
         for f_e in 0..128 {
-            let ln_mass = (f_m as f64 + 0.5) / 18.0 - 1.0;
+            let ln_mass = (f_m as f64 + 0.5) * 7.0 / 128.0 - 1.0;
             let ln_energy = (f_e as f64 + 0.5) / 16.0 - 5.5;
             let b = box_of(ln_mass, ln_energy);
             let priority = if ln_mass >= ln(HEAVY) { 128 } else { 0 };
@@ -263,6 +263,24 @@ mod tests {
         ] {
             assert_eq!(box_of(ln(mass), ln(energy)), b, "mass {mass}, energy {energy}");
             assert_eq!(beacon_of(b), beacon, "box {b}");
+        }
+    }
+
+    #[test]
+    fn cells_are_those_of_formula_a1_8() {
+        let tables = tables();
+        // At 0.1 MeV a nucleon (ln 0.1 + 5.5) x 16 is 51.2.
+        for (f_m, cell) in [
+            (18, [8, 0]),         // mass 1: 128 / 7 = 18.3
+            (43, [26, 2]),        // mass 4: (1.386 + 1) x 128 / 7 = 43.6
+            (68, [128 + 60, 6]),  // mass 16: 69.0
+            (91, [128 + 94, 10]), // mass 56: 91.9
+            // The middle of column 117 is mass 227; by 9 / 64 for one seventh it was 252.
+            (117, [128 + 106, 0]),
+            (119, [128 + 7, 0]), // mass 253
+        ] {
+            let at = position(MATRIX + 128 * f_m + 51);
+            assert_eq!(tables[at..at + 2], cell, "column {f_m}");
         }
     }
 

@@ -324,7 +324,7 @@ impl Stream {
 
     /// Moves all columns a little, or back.
     fn new_offsets(&mut self) {
-        self.send_offsets(&[0, 0, 1, -1, 3_641, -3_641, 70_000, -70_000]);
+        self.send_offsets(&[0, 0, 1, -1, 3_584, -3_584, 70_000, -70_000]);
         self.events_up_to(20);
         self.close();
         self.events_up_to(40);

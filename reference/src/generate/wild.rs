@@ -4,18 +4,27 @@ use crate::generate::Random;
 use crate::sorting::Event;
 use crate::tables::*;
 
-/// Numerators at the edges of columns: those of f_m are document 01's.
-const U_EDGES: [i64; 6] = [-1, 0, 3_640, 3_641, 466_033, 466_034];
-const W_EDGES: [i64; 6] = [-1, 0, 4_095, 4_096, 524_287, 524_288];
+/// The numerators of one column: u of f_m (document 02, Point 2), and that of f_e.
+const U_COLUMN: i64 = 3_584;
+const W_COLUMN: i64 = 4_096;
 
-/// A number near the edges, or within the columns, or anywhere near them.
-fn numerator(random: &mut Random, edges: &[i64; 6]) -> i64 {
-    let last = edges[5];
+/// A numerator at the edge of the 128 columns or of one of them, or anywhere in or near them.
+fn numerator(random: &mut Random, column: i64) -> i64 {
+    let last = 128 * column;
     match random.below(10) {
-        0 | 1 => random.pick(edges),
-        2 => random.pick(edges) + random.between(-3, 3),
+        0 => random.pick(&[-1, 0, column - 1, column, last - 1, last]),
+        1 | 2 => column * random.between(0, 128) + random.between(-1, 1),
         3 => random.between(-last / 4, last + last / 4),
         _ => random.between(0, last - 1),
+    }
+}
+
+/// u for a channel: first every multiple of a column and its neighbours in turn.
+fn u_of(random: &mut Random, channel: i64) -> i64 {
+    if channel < 3 * 129 {
+        U_COLUMN * (channel / 3) + channel % 3 - 1
+    } else {
+        numerator(random, U_COLUMN)
     }
 }
 
@@ -41,7 +50,7 @@ pub fn tables(random: &mut Random) -> (Vec<u8>, Vec<Event>) {
         k
     });
     for t in 0..512 {
-        let w = numerator(random, &W_EDGES);
+        let w = numerator(random, W_COLUMN);
         let anything = random.percent(5);
         let value = if anything { any_word(random) } else { ktof + 360_448 - w };
         set_word(&mut tables, TIME_OF_FLIGHT + t, clamped(value));
@@ -50,11 +59,11 @@ pub fn tables(random: &mut Random) -> (Vec<u8>, Vec<Event>) {
     for channel in 0..2_048 {
         for (energies, k) in [(HIGH_ENERGY, khi), (LOW_ENERGY, klo)] {
             let t = random.below(512);
-            let u = numerator(random, &U_EDGES);
+            let u = u_of(random, channel);
             let time_word = word(&tables, TIME_OF_FLIGHT + t) as i64;
             let anything = random.percent(5);
             let value = if anything { any_word(random) } else { u + k - time_word + ktof - 65_536 };
-            set_word(&mut tables, energies + channel, clamped(value));
+            set_word(&mut tables, energies + channel as usize, clamped(value));
             let (t, channel) = (t as u16, channel as u16);
             aimed.push(if energies == HIGH_ENERGY {
                 Event { t, high: channel, low: random.below(2_048) as u16, flags: 0 }

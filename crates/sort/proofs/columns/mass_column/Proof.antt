@@ -17,15 +17,13 @@ returns c =
     let e = toZ-ofZ w32 (m .result) record { sfits = m .ok } ∙ m .ensures in
     toZ-ofZ w32 (f .result) record { sfits = f .ok }
     ∙ f .ensures
-    ∙ ap (λ (z : ℤ). floorZ z 32768) e
+    ∙ ap (λ (z : ℤ). floorZ z 3584) e
     ∙ sym (mass-sub (s .args .e) (s .args .k) (s .args .t) (s .args .ktof))
 
 pub mass-column-spec : {M : Type 1} → statement M
 mass-column-spec =
     tie.close
     (tie.spec
-    (λ c. search needs)
-    (λ c. search needs)
     (λ c. search needs)
     (λ c. search needs)
     (λ c. search needs)
