@@ -2,23 +2,16 @@
 use mathlib.Core.Bool.{true, false}
 use mathlib.Core.List.{List}
 use mathlib.Core.Path.{_≡_}
-use Prim.Native.Nat.{ℕ, _-_, _≤_, _<_}
+use Prim.Native.Nat.{ℕ, _-_}
 use lib.ListN.{take, drop}
 use Rattle.state.specs.declared.State.{State}
 use Rattle.buffered.specs.declared.input.Input.{Input}
-use Rattle.buffered.specs.Input.{Held, waitingIn}
+use Rattle.buffered.specs.Input.{waitingIn}
 use Rattle.stream.specs.declared.record.Next.{Next}
 use Rattle.stream.specs.declared.record.Next.the-variants.{End, Bad, Record}
 use Rattle.stream.specs.declared.record.Step.{Step}
-use Rattle.minute.specs.Calls.{carriedOut}
-use Rattle.minute.specs.Events.{EventsRun, NoEvent}
-use Rattle.minute.specs.Record.{Long}
-
--- the record lies in the buffer, from its start on
-abbrev pub LiesIn : Next → (buffer : List ℕ) → Type 0
-LiesIn End buffer = Unit {0}
-LiesIn Bad buffer = Unit {0}
-LiesIn (Record kind start from rest) buffer = (start < from) × (from ≤ rest .at) × Held rest buffer × Long kind (rest .at - from)
+use Rattle.minute_calls.specs.Calls.{carriedOut}
+use Rattle.minute_calls.specs.Events.{EventsRun, NoEvent}
 
 -- its body
 abbrev pub bodyIn : (from : ℕ) → Input → (buffer : List ℕ) → List ℕ

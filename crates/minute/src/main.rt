@@ -1,13 +1,13 @@
 // Reads tables.bin and records from standard input, and prints a line for each interval that is closed.
-mod calls;
-mod records;
-
 ghost use Rattle.buffered.specs.Input.{Held};
-ghost use Rattle.minute.specs.Step.{LiesIn, Stepped};
+ghost use Rattle.minute_records.specs.Record.{LiesIn};
+ghost use Rattle.minute.specs.Step.{Stepped};
 use buffered::input::Input;
 use buffered::text::OVER;
 use buffered::turns::MOST_TURNS;
 use buffered::turns::left;
+use minute_calls::calls;
+use minute_records::records;
 use state::State;
 use stream::record::Next;
 use stream::record::Step;

@@ -17,8 +17,6 @@ use Rattle.sample_record.specs.Record.{recordGood}
 use Rattle.sort.specs.declared.event.Event.{Event}
 use Rattle.sort.specs.Event.{inRange}
 use Rattle.load.specs.Staging.{stagingBytes, formed, fits, placeable, receivedSum, computedSum}
-use Rattle.command.specs.declared.command.Line.{Line}
-use Rattle.command.specs.Asked.{isWrong, isCommand, usesStaging}
 use Rattle.echo.specs.Echo.{echoBytes}
 use Rattle.command.specs.Grammar.{bytesOk, lineOf}
 use Rattle.orders.specs.Orders.{loadWaits, commandsFull}
@@ -27,7 +25,8 @@ use Rattle.state.specs.Interval.{mostEvents, mostReadings}
 use Rattle.state.specs.Limits.{withinLimits}
 use Rattle.processor.specs.Event.{eventChecks, eventNumber}
 use Rattle.processor.specs.Reading.{readingChecks, readingNumber}
-use Rattle.processor.specs.Line.{commandChecks, lineChecks, lineNumber}
+use Rattle.accepted_line.specs.Told.{commandChecks}
+use Rattle.processor.specs.Line.{lineChecks, lineNumber}
 use Rattle.processor.specs.Package.{isStaged, packageCallNumber}
 use Rattle.output.specs.Output.{outBytes}
 use Rattle.packet.specs.Packet.{packetBytes}
@@ -66,17 +65,6 @@ reading-takes s h = let p = all-passed (readingChecks s) refl h in (p .0, ltb-tr
 
 -- ---- a line
 
--- a command that is accepted is right, finds no load waiting where that would block it, and is one of at most 32
-pub record Accepts (waits full : Bool) (l : Line) : Type 0 where
-  pub right : not (isWrong l) ≡ true
-  pub free : not (usesStaging l && waits) ≡ true
-  pub room : not (isCommand l && full) ≡ true
-
-pub command-accepts : (waits full : Bool) (l : Line) → numberBy (commandChecks waits full l) ≡ 0 → Accepts waits full l
-command-accepts waits full l h =
-    let p = all-passed (commandChecks waits full l) refl h in
-    record { right = p .0; free = p .1 .0; room = p .1 .1 .0 }
-
 -- past 1 and 4, the number is that of the command
 pub line-number : (s : State) (line : List ℕ) (echo : ℕ) → withinLimits s ≡ true → eqb echo echoBytes ≡ true → bytesOk line ≡ true
     → lineNumber s line echo
@@ -97,18 +85,6 @@ line-tells s line echo h =
     let p = all-passed (lineChecks s line echo) refl h in
     let q = and-split _ _ (p .0) in
     record { limits = q .0; echo-is = q .1; bytes = p .1 .0; accepts = rw (q .0, q .1, p .1 .0) at h }
-
--- a number of a command that is not 0 is 5, 6 or 7
-pub command-five : (wrong staging command waits full : Bool)
-    → (_≡_ {A = ℕ} (cond (not wrong) (cond (not (staging && waits)) (cond (not (command && full)) 0 7) 6) 5) 0 → ⊥)
-    → leb 5 (cond (not wrong) (cond (not (staging && waits)) (cond (not (command && full)) 0 7) 6) 5) ≡ true
-command-five true staging command waits full h = refl
-command-five false staging command waits full h = go (not (staging && waits)) (not (command && full)) h
-  where
-    go : (b c : Bool) → (_≡_ {A = ℕ} (cond b (cond c 0 7) 6) 0 → ⊥) → leb 5 (cond b (cond c 0 7) 6) ≡ true
-    go true true h = absurd (h refl)
-    go true false h = refl
-    go false c h = refl
 
 -- 1 and 4, judged before the command: a number that is not 0 is the call's, and neither 5 nor above
 pub line-early : (s : State) (line : List ℕ) (echo n : ℕ) → n ≡ cond (withinLimits s && eqb echo echoBytes) (cond (bytesOk line) 0 4) 1

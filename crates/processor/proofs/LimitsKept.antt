@@ -41,10 +41,12 @@ use Rattle.state.specs.Limits.{withinLimits}
 use Rattle.state.proofs.LimitLaws.{state-limits, state-whole, interval-limits, interval-whole}
 use Rattle.processor.specs.Event.{placeFor, intervalTaken, eventNumber, eventDone}
 use Rattle.processor.specs.Reading.{addedTotals, readingNumber, readingDone}
-use Rattle.processor.specs.Line.{commandChecks, stateTold, lineNumber, lineDone}
+use Rattle.accepted_line.specs.Told.{commandChecks, stateTold}
+use Rattle.accepted_line.proofs.ToldLaws.{command-accepts}
+use Rattle.processor.specs.Line.{lineNumber, lineDone}
 use Rattle.processor.specs.Package.{isStaged, packageCallNumber, packageDone}
 use Rattle.processor.specs.Close.{stateClosed, closeNumber, closeDone}
-use Rattle.processor.proofs.CallLaws.{event-takes, reading-takes, command-accepts, line-tells, package-stages}
+use Rattle.processor.proofs.CallLaws.{event-takes, reading-takes, line-tells, package-stages}
 
 -- ---- the interval
 

@@ -2,23 +2,15 @@
 use mathlib.Core.Bool.{true, false}
 use mathlib.Core.List.{List}
 use mathlib.Core.Path.{_≡_}
-use Prim.Native.Nat.{ℕ, _-_, _≤_}
+use Prim.Native.Nat.{ℕ, _-_}
 use lib.ListN.{take, drop}
 use Rattle.state.specs.declared.State.{State}
-use Rattle.buffered.specs.Input.{Held}
 use Rattle.stream.specs.declared.record.Next.{Next}
 use Rattle.stream.specs.declared.record.Next.the-variants.{End, Bad, Record}
 use Rattle.stream.specs.declared.record.Step.{Step}
 use Rattle.ground.specs.GatherTheorems.{Gatherer}
-use Rattle.replay.specs.Record.{Long}
-use Rattle.replay.specs.Calls.{carriedOut, Left}
-use Rattle.replay.specs.Ground.{groundOut}
-
--- the record's body lies in the buffer, and the rest of the input behind it
-abbrev pub LiesIn : Next → (buffer : List ℕ) → Type 0
-LiesIn End buffer = Unit {0}
-LiesIn Bad buffer = Unit {0}
-LiesIn (Record kind start from rest) buffer = (from ≤ rest .at) × Held rest buffer × Long kind (rest .at - from)
+use Rattle.replay_calls.specs.Calls.{carriedOut, Left}
+use Rattle.replay_calls.specs.Ground.{groundOut}
 
 -- the end and a bad record change nothing and are the last
 abbrev pub Same : State → (tables staging slots echo : List ℕ) → Step → (tables′ staging′ slots′ echo′ : List ℕ) → Type 0

@@ -1,17 +1,17 @@
 // Reads tables.bin and a list of calls from standard input, carries them out and prints every answer.
-mod calls;
-mod ground_calls;
-mod records;
-
 ghost use mathlib.Core.Path.{_≡_};
 ghost use Rattle.buffered.specs.Input.{Held};
-ghost use Rattle.replay.specs.Ground.{gatherer};
-ghost use Rattle.replay.specs.Step.{LiesIn, Stepped, groundStepped};
+ghost use Rattle.replay_calls.specs.Ground.{gatherer};
+ghost use Rattle.replay_records.specs.Record.{LiesIn};
+ghost use Rattle.replay.specs.Step.{Stepped, groundStepped};
 use buffered::input::Input;
 use buffered::text::OVER;
 use buffered::turns::MOST_TURNS;
 use buffered::turns::left;
 use ground::gather::Gathered;
+use replay_calls::calls;
+use replay_calls::ground_calls;
+use replay_records::records;
 use state::State;
 use stream::record::Next;
 use stream::record::Step;

@@ -12,7 +12,8 @@ use Rattle.orders.specs.Orders.{mostCommands}
 use Rattle.state.specs.Limits.{withinLimits}
 use Rattle.processor.specs.Event.{eventNumber, eventDone}
 use Rattle.processor.specs.Reading.{readingNumber, readingDone}
-use Rattle.processor.specs.Line.{stateTold, lineNumber, lineDone}
+use Rattle.accepted_line.specs.Told.{stateTold}
+use Rattle.processor.specs.Line.{lineNumber, lineDone}
 use Rattle.processor.specs.Package.{isStaged, packageCallNumber, packageDone}
 use Rattle.processor.specs.Close.{closeDone}
 use Rattle.processor.specs.Listing.{listingDone}

@@ -26,9 +26,9 @@ use Rattle.state.specs.State.{withOrders}
 use Rattle.causes.specs.Checks.{numberBy}
 use Rattle.processor.specs.Event.{placeFor, slotsTaken, intervalTaken}
 use Rattle.processor.specs.Reading.{addedTotals}
-use Rattle.processor.specs.Line.{commandChecks, stateTold}
+use Rattle.accepted_line.specs.Told.{commandChecks, stateTold}
 use Rattle.processor.specs.Close.{stateClosed}
-use Rattle.processor.proofs.CallLaws.{command-accepts}
+use Rattle.accepted_line.proofs.ToldLaws.{command-accepts}
 use Rattle.tally.specs.Events.{sorted, inBox, inBeacon, countsBy, isEligible, eligiblesBy, priority, recordFor, slotsBy, useBy}
 use Rattle.tally.specs.Tally.{noneGathered, Tally, totalsBy, loadWaitsFor, fullFor, heard, ended}
 use Rattle.tally.specs.View.{viewInterval, viewState}

@@ -18,7 +18,8 @@ use Rattle.orders.proofs.OrderLaws.{waiting-with}
 use Rattle.state.specs.State.{withInterval}
 use Rattle.processor.specs.Event.{eventNumber, eventDone}
 use Rattle.processor.specs.Reading.{readingNumber, readingDone}
-use Rattle.processor.specs.Line.{commandChecks, lineNumber, lineDone}
+use Rattle.accepted_line.specs.Told.{commandChecks}
+use Rattle.processor.specs.Line.{lineNumber, lineDone}
 use Rattle.processor.specs.Package.{isStaged, packageCallNumber, packageDone}
 use Rattle.processor.specs.Close.{closeNumber, closeDone}
 use Rattle.processor.specs.Listing.{listingNumber, listingDone}

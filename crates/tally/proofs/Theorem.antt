@@ -20,7 +20,8 @@ use Rattle.state.specs.State.{freshState}
 use Rattle.state.specs.Limits.{withinLimits}
 use Rattle.processor.specs.Event.{eventNumber, intervalTaken, eventDone}
 use Rattle.processor.specs.Reading.{readingNumber, readingDone}
-use Rattle.processor.specs.Line.{lineNumber, stateTold, lineDone}
+use Rattle.accepted_line.specs.Told.{stateTold}
+use Rattle.processor.specs.Line.{lineNumber, lineDone}
 use Rattle.processor.specs.Package.{isStaged, packageCallNumber, packageDone}
 use Rattle.processor.specs.Close.{closeNumber, stateClosed, closeDone}
 use Rattle.processor.proofs.LimitsKept.{fresh-kept}

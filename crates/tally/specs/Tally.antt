@@ -29,7 +29,8 @@ use Rattle.orders.specs.declared.Waiting.{Waiting}
 use Rattle.orders.specs.Orders.{mostCommands, loadsIn}
 use Rattle.orders.specs.Run.{settingsAfterAll, tablesAfterAll, addressesAfterAll}
 use Rattle.state.specs.Interval.{mostEvents, mostReadings, noCounts}
-use Rattle.processor.specs.Line.{commandChecks, addressesTold, toldEcho, echoBy}
+use Rattle.accepted_line.specs.Told.{commandChecks, addressesTold, toldEcho}
+use Rattle.processor.specs.Line.{echoBy}
 use Rattle.processor.specs.Package.{isStaged, stagedEcho}
 use Rattle.output.specs.Output.{outBytes, packetsOf}
 use Rattle.tally.specs.Calls.{Lent, found, Call, event, reading, line, load, close, listing, Reply, answered, echoed, closed}

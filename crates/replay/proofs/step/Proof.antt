@@ -9,9 +9,9 @@ use Rattle.stream.specs.declared.record.Next.{Next}
 use Rattle.stream.specs.declared.record.Next.the-variants.{Record}
 use Rattle.stream.specs.declared.record.Step.{Step}
 use Rattle.ground.specs.declared.gather.Gathered.{Gathered}
-use Rattle.replay.specs.Record.{Long}
-use Rattle.replay.specs.Ground.{gatherer}
-use Rattle.replay.specs.Step.{LiesIn, Stepped, groundStepped}
+use Rattle.replay_records.specs.Record.{Long, LiesIn}
+use Rattle.replay_calls.specs.Ground.{gatherer}
+use Rattle.replay.specs.Step.{Stepped, groundStepped}
 use borrow.Author.Needs.{needs}
 use Rattle.replay.proofs.step.Statement.{statement}
 use Rattle.replay.proofs.step.Tie as tie

@@ -10,8 +10,10 @@ use Rattle.command.specs.Grammar.{lineOf}
 use Rattle.orders.specs.Orders.{loadWaits, commandsFull}
 use Rattle.orders.proofs.OrderLaws.{orders-are}
 use Rattle.state.proofs.LimitLaws.{state-limits}
-use Rattle.processor.specs.Line.{commandChecks, lineNumber, lineDone}
-use Rattle.processor.proofs.CallLaws.{line-number, command-five}
+use Rattle.accepted_line.specs.Told.{commandChecks}
+use Rattle.accepted_line.proofs.ToldLaws.{command-five}
+use Rattle.processor.specs.Line.{lineNumber, lineDone}
+use Rattle.processor.proofs.CallLaws.{line-number}
 use borrow.Author.Needs.{needs}
 use Rattle.processor.proofs.line.take_line.Statement.{statement}
 use Rattle.processor.proofs.line.take_line.Tie as tie

@@ -1,0 +1,2 @@
+-- Laws of lines that came.
+pub mod ToldLaws

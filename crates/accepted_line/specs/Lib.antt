@@ -1,0 +1,2 @@
+-- What the contracts of lines that came cite.
+pub mod Told

@@ -1,4 +1,0 @@
--- Laws of lines, of events in a row and of records.
-mod LineLaws
-mod EventLaws
-mod RecordLaws

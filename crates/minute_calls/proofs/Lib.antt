@@ -1,0 +1,3 @@
+-- Laws of lines and of events in a row.
+mod LineLaws
+mod EventLaws

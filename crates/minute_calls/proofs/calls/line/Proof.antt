@@ -1,0 +1,19 @@
+-- `line` hands the bytes before the first zero to the processor.
+use mathlib.Core.Path.{sym}
+use lib.Seq.{length-take-le}
+use borrow.Author.Needs.{needs}
+use Rattle.minute_calls.proofs.calls.line.Statement.{statement}
+use Rattle.minute_calls.proofs.calls.line.Tie as tie
+
+slice-aggregate-line : tie.Need-slice-aggregate-line
+slice-aggregate-line c = sym (length-take-le _ _ (c .before .line-length .ensures .1))
+
+returns : tie.Need-returns
+returns c =
+    let l = c .before in
+    simp (sym (l .before .before .before .line-length .ensures .0)) (l .line .ensures .0)
+
+pub line-spec : {M : Type 1} → statement M
+line-spec =
+    tie.close
+    (tie.spec (λ c κs. search needs) slice-aggregate-line (λ c. search needs) (λ c κs. search needs) returns)

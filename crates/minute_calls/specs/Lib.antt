@@ -1,0 +1,4 @@
+-- What the contracts of minute's calls cite.
+pub mod Line
+pub mod Events
+pub mod Calls

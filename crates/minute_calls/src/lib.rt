@@ -1,0 +1,2 @@
+// The calls that carry out the records of minute.
+pub mod calls;

@@ -1,0 +1,2 @@
+-- What the contracts of minute's records cite.
+pub mod Record

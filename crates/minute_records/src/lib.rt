@@ -1,0 +1,2 @@
+// The records of minute.
+pub mod records;

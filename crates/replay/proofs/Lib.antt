@@ -1,4 +1,0 @@
--- Laws of records and of what they leave.
-mod RecordLaws
-mod CallLaws
-mod GroundLaws

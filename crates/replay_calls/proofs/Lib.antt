@@ -1,0 +1,3 @@
+-- Laws of what records leave, aboard and on the ground.
+mod CallLaws
+mod GroundLaws

@@ -1,0 +1,3 @@
+-- What the contracts of replay's calls cite.
+pub mod Calls
+pub mod Ground

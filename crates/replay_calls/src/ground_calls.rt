@@ -1,0 +1,61 @@
+// The calls on the ground, each with its answer printed.
+ghost use mathlib.Core.Path.{_≡_};
+ghost use lib.ListN.{length};
+ghost use Rattle.wire.specs.Bytes.{zeros};
+ghost use Rattle.ground.specs.GatherTheorems.{given, freshGatherer};
+ghost use Rattle.replay_calls.specs.Ground.{gatherer, groundOut};
+use ground::gather::Gathered;
+use replay_records::records::GATHER;
+use replay_records::records::GATHERED;
+use replay_records::records::PACKET;
+
+// Bytes given to the gatherer.
+fn gather(
+    gathered: Gathered,
+    table: &mut [u8],
+    body: &[u8],
+    text: &mut [u8],
+    at: &mut usize,
+) -> Gathered
+    ensures { λ r. ⌜ gatherer r (now (table .exit)) ≡ given (gatherer gathered (now (table .entry))) (now (body .entry)) ⌝ }
+{
+    let answer = ground::gather::gather(gathered, body, table);
+    let after = answer.gathered;
+    let missing = ground::gather::missing(after);
+    answers::listing::print_gather(text, at, answer.number, missing);
+    after
+}
+
+// What was gathered is printed, and a fresh gatherer starts with a table of zeros.
+fn hand_over(gathered: Gathered, table: &mut [u8], text: &mut [u8], at: &mut usize) -> Gathered
+    ensures { λ r. ⌜ gatherer r (now (table .exit)) ≡ freshGatherer (zeros (length (now (table .entry)))) ⌝ }
+{
+    let missing = ground::gather::missing(gathered);
+    answers::listing::print_gathered(text, at, missing, table);
+    let n = table.len();
+    wire::write::put_zeros(table, 0, n);
+    ground::gather::none()
+}
+
+// One record, of which those of the calls aboard change nothing on the ground.
+pub fn carry_out(
+    kind: u8,
+    gathered: Gathered,
+    table: &mut [u8],
+    body: &[u8],
+    text: &mut [u8],
+    at: &mut usize,
+) -> Gathered
+    ensures { λ r. ⌜ gatherer r (now (table .exit))
+        ≡ groundOut kind (gatherer gathered (now (table .entry))) (now (body .entry)) ⌝ }
+{
+    match kind {
+        PACKET => {
+            answers::packets::print_packet(text, at, body);
+            gathered
+        }
+        GATHER => gather(gathered, table, body, text, at),
+        GATHERED => hand_over(gathered, table, text, at),
+        _ => gathered,
+    }
+}

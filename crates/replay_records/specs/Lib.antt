@@ -1,0 +1,2 @@
+-- What the contracts of replay's records cite.
+pub mod Record

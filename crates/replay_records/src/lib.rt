@@ -1,0 +1,2 @@
+// The records of a list of calls.
+pub mod records;
