@@ -2,22 +2,23 @@
 # Instructions (callgrind) and time of an event and of a close, and the memory of a run: the proved `minute` beside the
 # second implementation in plain Rust, same streams, same machine.
 #   bench/run.sh
-# Needs Debian's packages valgrind and time. An event: the stream of 1,000,000 events of one interval, less an empty stream. A close: instructions
-# of a stream of closes with 704 filled slots, less the same stream without its closes; time of a stream of closes alone,
-# less an empty stream, since the difference of two long runs is lost in the time of the events.
+# Needs Debian's packages valgrind and time. An event: the stream of 1,000,000 events of one interval, less an empty stream.
+# A close: a stream of closes with 704 filled slots, less the same stream without its closes; in time, pairs of runs
+# until their difference stands above the noise (close_time.py).
 set -eu
 cd "$(dirname "$0")/.."
 rt check minute > /dev/null
 (cd reference && cargo build --release --offline --quiet)
 plain=$PWD/reference/target/release
 closes=500
-frames=5000
+timed=2000
 work=$(mktemp -d)
 trap 'rm -rf "$work"' EXIT
 "$plain/streams" 2 0 "$work/events" --minute --million
 "$plain/streams" 2 0 "$work/closes" --minute --full $closes
 "$plain/streams" 2 0 "$work/unclosed" --minute --unclosed $closes
-"$plain/streams" 2 0 "$work/frames" --minute --frames $frames
+"$plain/streams" 2 0 "$work/timed" --minute --full $timed
+"$plain/streams" 2 0 "$work/untimed" --minute --unclosed $timed
 mkdir "$work/empty"
 cp "$work/events/tables.bin" "$work/empty"
 : > "$work/empty/stdin"
@@ -48,14 +49,16 @@ kilobytes() {
 
 # row NAME PROGRAM: four figures, by the event and by the close
 row() {
-    local figures=() empty ready
+    local figures=() empty ready close noise pairs
     empty=$(instructions "$2" empty)
     ready=$(nanoseconds "$2" empty)
     figures+=($((($(instructions "$2" events) - empty) / events)))
     figures+=($((($(instructions "$2" closes) - $(instructions "$2" unclosed)) / closes)))
     figures+=($((($(nanoseconds "$2" events) - ready) / events)))
-    figures+=($((($(nanoseconds "$2" frames) - ready) / frames)))
-    printf '%-34s %12s %12s %12s %12s\n' "$1" "${figures[0]}" "${figures[2]}" "${figures[1]}" "${figures[3]}"
+    read -r close noise pairs <<< "$(python3 bench/close_time.py "$2" "$work/timed" "$work/untimed" $timed)"
+    figures+=("$close")
+    printf '%-34s %12s %12s %12s %12s   +- %s in %s pairs\n' \
+        "$1" "${figures[0]}" "${figures[2]}" "${figures[1]}" "${figures[3]}" "$noise" "$pairs"
     last=("${figures[@]}")
 }
 

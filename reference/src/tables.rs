@@ -33,11 +33,15 @@ pub fn set_word(tables: &mut Tables, address: usize, value: u32) {
     tables[position(address)..][..3].copy_from_slice(&value.to_be_bytes()[1..]);
 }
 
-/// Sum of all words modulo 2^24 (rate packet, bytes 264-266).
+/// Sum of all words modulo 2^24 (rate packet, bytes 264-266). A word is the upper part of the four bytes from its first on;
+/// behind the last word there is no fourth byte.
 pub fn sum(tables: &Tables) -> u32 {
-    let words = tables.chunks_exact(3);
-    words.fold(0u32, |sum, w| sum.wrapping_add((w[0] as u32) << 16 | (w[1] as u32) << 8 | w[2] as u32))
-        & 0xFF_FFFF
+    let four = |address| {
+        let i = position(address);
+        u32::from_be_bytes(tables[i..i + 4].try_into().expect("four bytes"))
+    };
+    let words = (FIRST_WORD..LAST_WORD).map(|address| four(address) >> 8);
+    words.fold(word(tables, LAST_WORD) as u32, u32::wrapping_add) & 0xFF_FFFF
 }
 
 #[cfg(test)]

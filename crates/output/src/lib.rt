@@ -58,18 +58,16 @@ pub fn write_packets(
 {
     let sum = packet::table_sum::table_sum(tables);
     let stamp = stamp_of(frame, time, 0);
-    let totals = i.totals;
-    let counts = i.counts;
     packet::write::write_rate(
         &mut out[0..PACKET_BYTES],
         stamp,
-        &totals,
-        &counts.boxes,
+        &i.totals,
+        &i.counts.boxes,
         settings,
         sum,
     );
     write_samples(out, frame, time, slots);
     let a = PACKET_BYTES * BEACON_PART;
     let e = PACKET_BYTES * (BEACON_PART + 1);
-    packet::write::write_beacon(&mut out[a..e], stamp, &counts.beacons);
+    packet::write::write_beacon(&mut out[a..e], stamp, &i.counts.beacons);
 }

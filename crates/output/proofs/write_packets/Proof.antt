@@ -19,21 +19,21 @@ use Rattle.output.proofs.write_packets.Tie as tie
 
 -- an interval's arrays have their lengths
 arrays : (s : tie.Start)
-    → (length (s .args .i .totals) ≡ 8) × (length (s .args .i .counts .boxes) ≡ 116) × (length (s .args .i .counts .beacons) ≡ 12)
+    → (length (s .args .t3 .totals) ≡ 8) × (length (s .args .t3 .counts .boxes) ≡ 116) × (length (s .args .t3 .counts .beacons) ≡ 12)
 arrays s =
     let fields = s .good .1 .1 .0 .1 .1 in
     let counts = fields .1 .0 .1 .1 in (
-      sym (length-map (s .args .i .totals) (λ v. v)) ∙ fields .1 .1 .1 .1 .0 .1 .0 .1,
-      sym (length-map (s .args .i .counts .boxes) (λ v. v)) ∙ counts .0 .1 .0 .1,
-      sym (length-map (s .args .i .counts .beacons) (λ v. v)) ∙ counts .1 .0 .1 .0 .1,
+      sym (length-map (s .args .t3 .totals) (λ v. v)) ∙ fields .1 .1 .1 .1 .0 .1 .0 .1,
+      sym (length-map (s .args .t3 .counts .boxes) (λ v. v)) ∙ counts .0 .1 .0 .1,
+      sym (length-map (s .args .t3 .counts .beacons) (λ v. v)) ∙ counts .1 .0 .1 .0 .1,
     )
 
 -- the places before: the table sum, the stamp, the rate packet, the samples
 abbrev entry : tie.After-table-sum → tie.Start
 entry t = let k = t .before .before in k .before .before
 
-abbrev stamped : tie.After-write-rate-arg3 → tie.After-stamp-of
-stamped c = let k = c .before .before .before in let l = k .before .before .before in l .before
+abbrev stamped : tie.After-write-rate-arg5 → tie.After-stamp-of
+stamped c = let k = c .before .before .before in k .before .before .before
 
 abbrev rated : tie.After-write-samples → tie.After-write-rate
 rated c = let k = c .before .before in k .before .before
@@ -41,22 +41,17 @@ rated c = let k = c .before .before in k .before .before
 abbrev sampled : tie.After-write-beacon-arg3 → tie.After-write-samples
 sampled c = let k = c .before .before .before in k .before .before .before
 
-slice-aggregate-write-rate : tie.Need-slice-aggregate-write-rate
-slice-aggregate-write-rate c =
-    let k = c .before .before .before in
-    sym (arrays (entry (k .before .before)) .0)
-
 write-rate-requires : tie.Need-write-rate-requires
 write-rate-requires c κs =
     let t = stamped c .before in
     let s = entry t in
     let w = s .pre .1 .1 in
-    (search needs, ((arrays s .0, arrays s .1), ((totals-fit (s .args .i) w, boxes-fit (s .args .i) w), t .table-sum .ensures .1)))
+    (search needs, ((arrays s .0, arrays s .1), ((totals-fit (s .args .t3) w, boxes-fit (s .args .t3) w), t .table-sum .ensures .1)))
 
 write-beacon-requires : tie.Need-write-beacon-requires
 write-beacon-requires c κs =
     let s = entry (stamped (rated (sampled c) .before) .before) in
-    ((search needs, arrays s .2), beacons-fit (s .args .i) (s .pre .1 .1))
+    ((search needs, arrays s .2), beacons-fit (s .args .t3) (s .pre .1 .1))
 
 returns : tie.Need-returns
 unfolding packetsOf
@@ -71,23 +66,23 @@ returns c =
     let xs = now (a .out) in
     let stamp = stampOf (a .frame) (a .time) 0 in
     let sum = tableSum (now (a .tables)) in
-    let R : List ℕ = ratePacket stamp (a .i .totals) (a .i .counts .boxes) (a .settings) sum in
+    let R : List ℕ = ratePacket stamp (a .t3 .totals) (a .t3 .counts .boxes) (a .settings) sum in
     let S : List ℕ = samplesOf (a .frame) (a .time) (now (a .slots)) samplePackets in
-    let E : List ℕ = beaconPacket stamp (a .i .counts .beacons) in
+    let E : List ℕ = beaconPacket stamp (a .t3 .counts .beacons) in
     let lr : length R ≡ packetBytes =
-    length-rate stamp (a .i .totals) (a .i .counts .boxes) (a .settings) sum (arrays s .0) (arrays s .1) in
+    length-rate stamp (a .t3 .totals) (a .t3 .counts .boxes) (a .settings) sum (arrays s .0) (arrays s .1) in
     let ls : length S ≡ 2992 = length-samples (a .frame) (a .time) (now (a .slots)) samplePackets (omega arith) in
-    let le : length E ≡ packetBytes = length-beacon stamp (a .i .counts .beacons) (arrays s .2) in
+    let le : length E ≡ packetBytes = length-beacon stamp (a .t3 .counts .beacons) (arrays s .2) in
     let lrs : length (R ++ S) ≡ 3264 = omega (arith, length-append R S) in
     let x₂ : List ℕ = c2 .write-samples .last .0 in
     let e₀ : c1 .write-rate .last .0 ≡ R =
     c1 .write-rate .ensures
-    ∙ (λ j. ratePacket (st .stamp-of .ensures j) (a .i .totals) (a .i .counts .boxes) (a .settings) (t .table-sum .ensures .0 j)) in
+    ∙ (λ j. ratePacket (st .stamp-of .ensures j) (a .t3 .totals) (a .t3 .counts .boxes) (a .settings) (t .table-sum .ensures .0 j)) in
     let e₁ : putMid 0 packetBytes xs (c1 .write-rate .last .0) ≡ put xs 0 R =
     ap (putMid 0 packetBytes xs) e₀ ∙ put-mid 0 packetBytes xs R (omega arith) (omega arith) in
     let e₂ : x₂ ≡ put xs 0 (R ++ S) = then xs 0 R S packetBytes e₁ (c2 .write-samples .ensures) (omega arith) (omega arith) in
     let eᵦ : c3 .write-beacon .last .0 ≡ E =
-    c3 .write-beacon .ensures ∙ (λ j. beaconPacket (st .stamp-of .ensures j) (a .i .counts .beacons)) in
+    c3 .write-beacon .ensures ∙ (λ j. beaconPacket (st .stamp-of .ensures j) (a .t3 .counts .beacons)) in
     let e₃ : putMid 3264 packetBytes x₂ (c3 .write-beacon .last .0) ≡ put x₂ 3264 E =
     ap (putMid 3264 packetBytes x₂) eᵦ ∙ put-mid 3264 3536 x₂ E (omega arith) (omega arith) in
     then xs 0 (R ++ S) E 3264 e₂ e₃ (omega arith) (omega arith) ∙ put-all xs (R ++ S ++ E) (omega (arith, length-append (R ++ S) E))
@@ -101,7 +96,6 @@ write-packets-spec =
     (λ c. search needs)
     (λ c. search needs)
     (λ c. search needs)
-    slice-aggregate-write-rate
     write-rate-requires
     (λ c κs. search needs)
     (λ c. search needs)
