@@ -1,4 +1,4 @@
-"""The cases of crates/command_cases/stdin: values on both sides of each bound that document 01 sets for lines and
+"""The cases of crates/command_cases/stdin: values on both sides of each bound that documents 01 and 02 set for lines and
 loads, lines with one thing wrong, every echo, and packages with one thing wrong.
 
 A case is a kind byte and a body, printed as digits on a line: 1 a line judged at a reach, 2 to 6 the echoes, 7 a
@@ -30,19 +30,35 @@ def loadats():
     return lines + [(TABLE_BYTES, "loadat " + a) for a in ("00f609", "000f609", "F609")]
 
 
-def loads():
-    # "all words in 7000 to C202": addresses around both ends, with few words and with as many as there can be.
-    lines = [(reach, f"load {a} {y}") for reach in range(8) for y in range(4)
-             for a in ("6fff", "7000", "c200", "c201", "c202", "c203")]
-    lines += [(62985, "load 7000 0"), (62985, "load 7001 0"), (62982, "load 7001 0"), (62983, "load 7001 0")]
-    lines += [(20995, "load 7000 1"), (20996, "load 7000 1"), (20994, "load 7001 1"), (20995, "load 7001 1")]
-    lines += [(41989, "load 7000 2"), (41990, "load 7000 2"), (41991, "load 7000 2"), (41988, "load 7001 2")]
-    lines += [(41989, "load 7001 2"), (62985, "load 7000 2"), (49152, "load 8000 0"), (512, "load c000 1")]
-    lines += [(1, "load " + a) for a in ("ffffff 0", "0 0", "0 1")]
-    wrong = ("7000 4", "7000 ff", "7000 100", "7000 101", "7000 ffffff", "7000 100000", "07000 00", "007000 000002",
-             "0007000 0", "7000 0000002", "7000 0 0", "7000", "0 0", "0 2", "C200 0", "c200 0 ", " c200 0", "c200  0")
-    lines += [(3, "load " + a) for a in wrong]
-    return lines + [(3, x) for x in (" load c200 0", "load c200,0", "load c200 -0", "loadn 7000 0 3", "load 7000 y")]
+# Arguments a and y with the reach at which they are judged: "all words in 7000 to C202", with as many words as there can be.
+LARGE_LOADS = [
+    (62985, "7000 0"), (62985, "7001 0"), (62982, "7001 0"), (62983, "7001 0"), (20995, "7000 1"), (20996, "7000 1"),
+    (20994, "7001 1"), (20995, "7001 1"), (41989, "7000 2"), (41990, "7000 2"), (41991, "7000 2"), (41988, "7001 2"),
+    (41989, "7001 2"), (62985, "7000 2"), (49152, "8000 0"), (512, "c000 1"), (1, "ffffff 0"), (1, "0 0"), (1, "0 1"),
+]
+# Arguments with something wrong, and a few that are right with zeros before them.
+ODD_LOADS = ("7000 4", "7000 ff", "7000 100", "7000 101", "7000 ffffff", "7000 100000", "07000 00", "007000 000002", "0007000 0",
+             "7000 0000002", "7000", "0 0", "0 2", "C200 0", " c200 0", "c200  0", "c200,0", "c200 -0", "7000 y", "7000 0 0", "c200 0 ")
+# Third arguments of a commit: digits from none to seven, large letters, others than digits, and one argument more.
+SUMS = ("", "0", "9", "a", "f", "ff", "abcdef", "ffffff", "000000", "00000f", "0000000", "1000000", "A", "aB", "FF", "g", "-1", "0x1",
+        "+0", "0 ", " 0", "0 0", "0 0 0", "?")
+
+
+def load_arguments():
+    """Addresses around both ends of the tables, with few words; then many words, and arguments with something wrong."""
+    few = [(reach, f"{a} {y}") for reach in range(8) for y in range(4)
+           for a in ("6fff", "7000", "c200", "c201", "c202", "c203")]
+    return few + LARGE_LOADS + [(3, x) for x in ODD_LOADS]
+
+
+def asks_and_commits():
+    """A commit is judged as an ask is, and takes any sum; document 01's "load a y" is wrong (document 02, Point 4)."""
+    lines = [(reach, "ask " + x) for reach, x in load_arguments()]
+    lines += [(reach, f"commit {x} {reach:x}") for reach, x in load_arguments()]
+    lines += [(reach, f"commit 7000 0 {x}") for reach in (0, 3) for x in SUMS] + [(3, "commit 7000 0")]
+    lines += [(reach, "load " + x) for reach, x in LARGE_LOADS + [(3, x) for x in ODD_LOADS if x != "7000"]]
+    return lines + [(3, x) for x in (" ask c200 0", "ask", "ask ", "askc200 0", "commit", "commit ", " commit c200 0 0", "commit c200",
+                                     "ask 7000 0 3", "asked 7000 0", "loadn 7000 0 3", "load 7000 0 0")]
 
 
 def misspelt(keyword):
@@ -61,9 +77,9 @@ WRONG_FORMS = ("*", "* ", "*  0", "* 0 ", " * 0", "* 0 0", "*0", "*\t0", "* 0\t"
 
 def wrong_keywords():
     lines = []
-    for keyword in ("limhi", *SWITCHES, "hvstep", "load", "loadat"):
-        arguments = ("0", "1", "7000 1") if keyword == "load" else ("0", "1")
-        lines += [(5, f"{word} {n}") for word in misspelt(keyword) for n in arguments]
+    arguments = {"load": ("0", "1", "7000 1"), "ask": ("7000 1",), "commit": ("7000 1 0",)}
+    for keyword in ("limhi", *SWITCHES, "hvstep", "load", "loadat", "ask", "commit"):
+        lines += [(5, f"{word} {n}") for word in misspelt(keyword) for n in arguments.get(keyword, ("0", "1"))]
         lines += [(5, form.replace("*", keyword)) for form in WRONG_FORMS]
     return lines
 
@@ -80,15 +96,15 @@ def other_lines():
 
 def line_cases():
     """Every line once at a reach."""
-    lines = settings_and_resets() + loadats() + loads() + wrong_keywords() + other_lines()
+    lines = settings_and_resets() + loadats() + asks_and_commits() + wrong_keywords() + other_lines()
     return [b"\1" + reach.to_bytes(3, "big") + x.encode("latin-1") for reach, x in dict.fromkeys(lines)]
 
 
 # ---- echoes
 
-ACCEPTED = [(0, 0, b"limhi 2c0"), (1, 1, b"hv 1"), (0xFF, 9, b"junk 0"), (0x100, 10, b"eonly 1"), (0xABCD, 15, b"load 7000 0"),
-            (0xFFFF, 31, b"loadat f609"), (0x1F0A, 16, b"load 0"), (7, 255, b"x" * 80), (9, 3, b"")]
-REFUSED = [b"", b"?", b"limhi 2c1", b"LIMHI 0", b"y" * 79, b"z" * 80]
+ACCEPTED = [(0, 0, b"limhi 2c0"), (1, 1, b"hv 1"), (0xFF, 9, b"junk 0"), (0x100, 10, b"eonly 1"), (0xABCD, 15, b"ask 7000 0"),
+            (0xABCE, 16, b"commit 7000 0 ffffff"), (0xFFFF, 31, b"loadat f609"), (0x1F0A, 16, b"load 0"), (7, 255, b"x" * 80), (9, 3, b"")]
+REFUSED = [b"", b"?", b"limhi 2c1", b"LIMHI 0", b"load 7000 0", b"ask 7000 0", b"commit 7000 0 1", b"y" * 79, b"z" * 80]
 # Address and number of bytes; with them the received and the computed sum.
 PLACED = ["00000000 00000000", "00000000 00000400", "00000400 00000400", "0000f609 00000000", "deadbeef ffffffff",
           "0a0b0c0d 00000009"]

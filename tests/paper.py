@@ -1,4 +1,5 @@
-"""The rules of document 01, written from its sentences, for the tests that work out expected outputs.
+"""The rules of document 01, and of the points of document 02 that are named, written from their sentences, for the tests
+that work out expected outputs.
 
 An interval is kept as the list of its events, as in "The tally of demand 3": counts, slots and packets are worked out
 from that list when it is closed. Sentences in quotes are the paper's.
@@ -172,6 +173,9 @@ MAX_COMMANDS = 32
 # The highest value of each setting's argument.
 HIGHEST = {b"limhi": 0x2C0, b"eonly": 1, b"toferror": 1, b"junk": 1, b"hv": 1, b"hvstep": 0xFF}
 
+# How many arguments there are: a and y, and of a commit the sum.
+ARGUMENTS = {b"ask": 2, b"commit": 3}
+
 
 def line_bytes_right(line):
     # "A line has up to 80 bytes, each 32 to 126"
@@ -197,7 +201,11 @@ def parse(line, reach):
     if keyword in HIGHEST:
         right = len(values) == 1 and values[0] <= HIGHEST[keyword]
     elif keyword == b"load":
-        right = values == [0] or len(values) == 2 and load_lawful(*values, reach)
+        # "Two-argument load disappears; load 0 stays." (document 02, Point 4)
+        right = values == [0]
+    elif keyword in ARGUMENTS:
+        # "The line "ask a y" checks as load did"; "The line "commit a y sum" is checked likewise".
+        right = len(values) == ARGUMENTS[keyword] and load_lawful(*values[:2], reach)
     elif keyword == b"loadat":
         right = len(values) == 1 and values[0] <= reach
     else:
@@ -454,7 +462,10 @@ class Processor:
     def __init__(self, tables):
         self.tables = bytearray(tables)
         self.staging = bytearray(TABLE_BYTES)
+        # "the tally keeping which staged bytes are bad" (document 02, Point 4)
+        self.bad = set()
         self.echo = bytes(ECHO_BYTES)
+        self.sum = 0
         self.settings = Settings()
         self.frame = self.next = self.reach = 0
         self.begin()
@@ -478,6 +489,8 @@ class Processor:
         return 0
 
     def line(self, line):
+        """The sum is that of an accepted ask: "it returns those bytes' sum"."""
+        self.sum = 0
         if not line_bytes_right(line):
             return 4
         if not line:
@@ -493,38 +506,54 @@ class Processor:
         return number
 
     def judge(self, command):
-        """Causes 5, 6 and 7."""
+        """Causes 5, 6, 7, 15 and 16."""
         if command is None:
             return 5
-        if command[0] in ("load", "loadat") and self.load_waits():
+        if command[0] in ("load", "loadat", "ask", "commit") and self.commit_waits():
             return 6
-        return 7 if self.accepted == MAX_COMMANDS else 0
+        if self.accepted == MAX_COMMANDS:
+            return 7
+        return self.judge_staged(command) if command[0] in ("ask", "commit") else 0
 
-    def load_waits(self):
-        return any(c[0] == "load" for c in self.waiting)
+    def judge_staged(self, command):
+        # "15 when a staged byte is bad, after 7; 16 when commit's sum differs from that of the bytes lent below the reach"
+        if any(i in self.bad for i in range(self.reach)):
+            return 15
+        return 16 if command[0] == "commit" and command[3] != self.staged_sum() else 0
+
+    def staged_sum(self):
+        return sum(self.staging[:self.reach])
+
+    def commit_waits(self):
+        return any(c[0] == "commit" for c in self.waiting)
 
     def accept(self, command):
-        # "Carried out when accepted: load 0 .., loadat a"; all others wait until close.
+        # "Carried out when accepted: load 0 .., loadat a", and an ask; all others wait until close.
         self.accepted += 1
         if command == ("load", 0):
             self.next = self.reach = 0
         elif command[0] == "loadat":
             self.next = command[1]
+        elif command[0] == "ask":
+            self.sum = self.staged_sum()
         else:
             self.waiting.append(command)
 
     def package(self, data):
-        number = 6 if self.load_waits() else judge_package(data, self.next)
+        number = 6 if self.commit_waits() else judge_package(data, self.next)
         if number in (0, 10):
             body, received = split_package(data)
             echo = package_echo(self.next, len(body)) if number == 0 else \
                 sum_error_echo(self.next, len(body), received, sum(body) % 65536)
             self.echo = echo_buffer(echo)
-            self.place(body)
+            self.place(body, number == 10)
         return number
 
-    def place(self, body):
-        # "Bytes go to the next address, which moves past them, reach too."
+    def place(self, body, sum_wrong):
+        # "Bytes go to the next address, which moves past them, reach too." Each is bad if it was "last written by a package
+        # with a wrong sum".
+        written = range(self.next, self.next + len(body))
+        self.bad = self.bad.union(written) if sum_wrong else self.bad.difference(written)
         self.staging[self.next:self.next + len(body)] = body
         self.next += len(body)
         self.reach = max(self.reach, self.next)
@@ -563,8 +592,8 @@ class Processor:
 
     def run(self, command):
         keyword, *values = command
-        if keyword == "load":
-            run_load(self.tables, self.staging, *values, self.reach)
+        if keyword == "commit":
+            run_load(self.tables, self.staging, *values[:2], self.reach)
             # "Both addresses are 0 once it has run."
             self.next = self.reach = 0
         else:

@@ -1,4 +1,4 @@
-"""Cases for the programs minute and replay. The expected outputs are worked out here from document 01,
+"""Cases for the programs minute and replay. The expected outputs are worked out here from documents 01 and 02,
 but for one: `example` holds the program to what README shows, which the second implementation printed.
 
     python3 tests/programs.py [FOLDER OF THE PROGRAMS]      target/bin if none is named
@@ -16,7 +16,7 @@ import tempfile
 import time
 import tty
 
-from paper import SLOTS, TABLE_BYTES, accepted_echo, echo_buffer, pack, package_echo, refused_echo, with_sum
+from paper import SLOTS, TABLE_BYTES, accepted_echo, echo_buffer, pack, package_echo, refused_echo, sum_error_echo, with_sum
 
 HERE = os.path.dirname(os.path.abspath(__file__))
 BIN = os.path.abspath(sys.argv[1] if len(sys.argv) > 1 else os.path.join(HERE, "..", "target", "bin"))
@@ -86,12 +86,17 @@ def echo(text):
     return echo_buffer(text).hex()
 
 
-def accepted(frame, sequence, text):
-    return "line 0 " + echo(accepted_echo(frame, sequence, text))
+def answered(number, text, total=0):
+    """A line's number, its echo, and the sum, which is 0 of all lines but an accepted ask."""
+    return f"line {number} {echo(text)} {total}"
+
+
+def accepted(frame, sequence, text, total=0):
+    return answered(0, accepted_echo(frame, sequence, text), total)
 
 
 def refused(number, text):
-    return f"line {number} " + echo(refused_echo(text))
+    return answered(number, refused_echo(text))
 
 
 def closed(frame, taken, filled, boxes=(), beacons=()):
@@ -293,7 +298,7 @@ def commands():
     lines = [b"junk 1", b"load 0", b"loadat 0"] + [b"hvstep %x" % n for n in range(30)]
     stream = b"".join(map(line, lines)) + line(b"") + line(b"junk 2") + close() + line(b"hv 1")
     want = [accepted(0, k, x) for k, x in enumerate(lines[:32])] + [refused(7, lines[32])]
-    want += ["line 0 " + echo(b"SIT> "), refused(5, b"junk 2")] + closed(0, 0, 0) + [accepted(1, 0, b"hv 1")]
+    want += [answered(0, b"SIT> "), refused(5, b"junk 2")] + closed(0, 0, 0) + [accepted(1, 0, b"hv 1")]
     check("replay: 33 commands", without_packets(run("replay", stream)), want)
     stream = b"".join(map(filled_line, lines)) + filled_line(b"") + filled_line(b"junk 2") + close() + filled_line(b"hv 1")
     check("minute: 33 commands", run("minute", stream), ["refused 7", "refused 5", "0 0 0 0 0 0"])
@@ -308,40 +313,80 @@ def zero_bytes():
     check("minute: a zero first", run("minute", filled_line(b"\0junk 1") + close()), ["0 0 0 0 0 0"])
     check("minute: 80 bytes", run("minute", filled_line(b"x" * 80) + filled_line(b"junk\t1") + filled_line(b"junk 1 ")), ["refused 5", "refused 4", "refused 5"])
     stream = line(b"junk 1") + line(b"junk 1\0") + line(b"\0") + line(b"x" * 80) + line(b"x" * 81) + line(b"~\x7f")
-    first, last = echo(b"0000 junk 1\r\nSIT> "), echo(b"x" * 80 + b"?\r\nSIT> ")
+    first, last = b"0000 junk 1\r\nSIT> ", b"x" * 80 + b"?\r\nSIT> "
     check("replay: lines with other bytes", run("replay", stream),
-          ["line 0 " + first, "line 4 " + first, "line 4 " + first, "line 5 " + last, "line 4 " + last, "line 4 " + last])
+          [answered(n, text) for n, text in ((0, first), (4, first), (4, first), (5, last), (4, last), (4, last))])
 
 
 def long_bodies():
     zeros = echo(b"")
     most = bytes(range(256)) * 246 + bytes(9)
     check("replay: bodies of 65,535 bytes", run("replay", line(b" " * 65535) + counted(5, b"\xff\xfd" + bytes(65533)) + packet(bytes(65535)) + event()),
-          ["line 4 " + zeros, "package 9 " + zeros, "packet 11", "event 0"])
+          [answered(4, b""), "package 9 " + zeros, "packet 11", "event 0"])
     check("replay: staging filled", run("replay", package(most) + package(b"") + package(b"a")),
           ["package 0 " + echo(package_echo(0, TABLE_BYTES)), "package 0 " + echo(package_echo(TABLE_BYTES, 0)), "package 9 " + echo(package_echo(TABLE_BYTES, 0))])
 
 
 # ---- loads
 
+# Box 60, priority 1 and beacon 3, in the cell that events go to: the sum of these bytes is 191, bf hex.
+LOADED = bytes([128 + 60, 3, 0])
+ASK, COMMIT = b"ask %x 0" % CELL, b"commit %x 0 bf" % CELL
+PLACED = "package 0 " + echo(package_echo(0, 3))
+BAD = "package 10 " + echo(sum_error_echo(0, 3, 192, 191))
+# The close of frame 1, after one event.
+AFTER_COMMIT = closed(1, 1, 1, [(2, 1), (3, 1), (60, 1)], [(3, 1)])
+
+
 def loads():
-    """A load runs at close, behind the packets, and blocks other loads until then."""
-    cell = bytes([128 + 60, 3, 0])
-    load = b"load %x 0" % CELL
-    stream = event() + package(cell) + line(load) + event() + package(b"a") + line(b"load 0") + close() + event() + line(load) + close()
-    ok = echo(package_echo(0, 3))
-    loaded = accepted(0, 0, load)
+    """A commit runs at close, behind the packets, and blocks packages and lines about staging until then."""
+    stream = event() + package(LOADED) + line(COMMIT) + event() + package(b"a") + line(b"load 0") + close() + event() + line(COMMIT) + close()
+    committed = accepted_echo(0, 0, COMMIT)
     output = run("replay", stream)
-    check("replay: a load at close", without_packets(output),
-          ["event 0", "package 0 " + ok, loaded, "event 0", "package 6 " + loaded[7:], refused(6, b"load 0")]
-          + closed(0, 2, 0, [(1, 2), (3, 2), (7, 2)]) + ["event 0", refused(5, load)]
-          + closed(1, 1, 1, [(2, 1), (3, 1), (60, 1)], [(3, 1)]))
+    check("replay: a commit at close", without_packets(output),
+          ["event 0", PLACED, answered(0, committed), "event 0", "package 6 " + echo(committed), refused(6, b"load 0")]
+          + closed(0, 2, 0, [(1, 2), (3, 2), (7, 2)]) + ["event 0", refused(5, COMMIT)] + AFTER_COMMIT)
     outs = [bytes.fromhex(x[4:]) for x in output.splitlines() if x.startswith("out ")]
-    check("replay: table sums before and after", outs[0][264:267].hex() + "\n" + outs[13][264:267].hex() + "\n", ["000000", cell.hex()])
-    bad = echo(b"binary A:00000000 N:00000003 ckserr 000000c0 000000bf\r\nSIT> ")
-    check("replay: a package whose sum is wrong is placed", without_packets(run("replay", package(cell, 1) + line(load) + close() + event() + close())),
-          ["package 10 " + bad, loaded] + closed(0, 0, 0) + ["event 0"] + closed(1, 1, 1, [(2, 1), (3, 1), (60, 1)], [(3, 1)]))
-    check("minute: nothing is staged", run("minute", filled_line(load) + filled_line(b"load 0") + filled_line(b"loadat 0") + filled_line(b"loadat 1")), ["refused 5"] * 2)
+    check("replay: table sums before and after", outs[0][264:267].hex() + "\n" + outs[13][264:267].hex() + "\n", ["000000", LOADED.hex()])
+
+
+def asks():
+    """An ask is answered with the sum of the staged bytes; a commit needs that sum (document 02, Point 4)."""
+    stream = package(LOADED) + line(ASK) + line(COMMIT) + close() + event() + close()
+    check("replay: package, ask, commit, close", without_packets(run("replay", stream)),
+          [PLACED, accepted(0, 0, ASK, 191), accepted(0, 1, COMMIT)] + closed(0, 0, 0) + ["event 0"] + AFTER_COMMIT)
+    more, less = b"commit %x 0 c0" % CELL, b"commit %x 0 be" % CELL
+    check("replay: a commit of another sum", run("replay", package(LOADED) + line(more) + line(less) + line(b"hv 1") + line(COMMIT)),
+          [PLACED, refused(16, more), refused(16, less), accepted(0, 0, b"hv 1"), accepted(0, 1, COMMIT)])
+    lines = [ASK, COMMIT, more, b"load 0", b"loadat 0", b"ask 6fff 0", b"load %x 0" % CELL]
+    check("replay: lines while a commit waits", run("replay", package(LOADED) + line(COMMIT) + b"".join(map(line, lines))),
+          [PLACED, accepted(0, 0, COMMIT)] + [refused(6, x) for x in lines[:5]] + [refused(5, x) for x in lines[5:]])
+    # 62,985 bytes of 255: 16,061,175 is f512f7 hex.
+    most = [b"ask 7000 0", b"commit 7000 0 f512f6", b"commit 7000 0 f512f8", b"commit 7000 0 f512f7"]
+    check("replay: the largest sum", run("replay", package(b"\xff" * TABLE_BYTES) + b"".join(map(line, most))),
+          ["package 0 " + echo(package_echo(0, TABLE_BYTES)), accepted(0, 0, most[0], 16061175)]
+          + [refused(16, x) for x in most[1:3]] + [accepted(0, 1, most[3])])
+    lines = (ASK, COMMIT, b"commit 7000 0 0", b"load 7000 0", b"load 0", b"loadat 0", b"loadat 1")
+    check("minute: nothing is staged", run("minute", b"".join(map(filled_line, lines))), ["refused 5"] * 5)
+
+
+def bad_bytes():
+    """While a staged byte is bad an ask and a commit are 15, until a package with a right sum has written it again."""
+    asked = line(ASK) + line(COMMIT)
+    check("replay: a package whose sum is wrong", run("replay", package(LOADED, 1) + asked), [BAD, refused(15, ASK), refused(15, COMMIT)])
+    again = line(b"loadat 0") + package(LOADED) + asked + close() + event() + close()
+    check("replay: a bad package sent again", without_packets(run("replay", package(LOADED, 1) + again)),
+          [BAD, accepted(0, 0, b"loadat 0"), PLACED, accepted(0, 1, ASK, 191), accepted(0, 2, COMMIT)] + closed(0, 0, 0) + ["event 0"] + AFTER_COMMIT)
+    # The last byte stays bad; then it is written again.
+    part = line(b"loadat 0") + package(LOADED[:2]) + asked + package(LOADED[2:]) + asked
+    check("replay: a bad package sent again in two parts", run("replay", package(LOADED, 1) + part),
+          [BAD, accepted(0, 0, b"loadat 0"), "package 0 " + echo(package_echo(0, 2)), refused(15, ASK), refused(15, COMMIT),
+           "package 0 " + echo(package_echo(2, 1)), accepted(0, 1, ASK, 191), accepted(0, 2, COMMIT)])
+    # Of no bytes: marks nothing. After a reset: the bytes beyond the reach may be bad.
+    stream = package(LOADED, 1) + line(b"load 0") + package(LOADED[:2]) + package(b"", 1) + line(b"ask 7000 0")
+    check("replay: bad bytes beyond the reach", run("replay", stream),
+          [BAD, accepted(0, 0, b"load 0"), "package 0 " + echo(package_echo(0, 2)), "package 10 " + echo(sum_error_echo(2, 0, 1, 0)),
+           accepted(0, 1, b"ask 7000 0", 191)])
 
 
 # ---- packets
@@ -395,9 +440,9 @@ def listings():
     output = run("replay", stream, WORDS).splitlines()
     check("replay: listings", "\n".join(output[:6] + output[-2:]) + "\n", want + after)
     words = bytes.fromhex("c07f01")
-    stream = package(words) + line(b"load 7000 0") + listing(0) + close() + listing(0)
+    stream = package(words) + line(b"commit 7000 0 140") + listing(0) + close() + listing(0)
     got = [x for x in run("replay", stream, WORDS).splitlines() if x.startswith("out 0a52")]
-    check("replay: what a load left aboard", "\n".join(got) + "\n",
+    check("replay: what a commit left aboard", "\n".join(got) + "\n",
           ["out " + listed(0, WORDS).hex(), "out " + listed(0, words + WORDS[3:], frame=1).hex()])
 
 
@@ -430,6 +475,27 @@ def example():
     check("minute: README's example", run("minute", stream, data), [shown])
 
 
+def session():
+    """README's session of a load: the records of example/load.py through replay, taken apart as README does."""
+    folder = os.path.join(HERE, "..", "example")
+    records = subprocess.run([sys.executable, "load.py"], cwd=folder, capture_output=True, check=True).stdout
+    with open(os.path.join(folder, "tables.bin"), "rb") as f:
+        data = f.read()
+    with open(os.path.join(HERE, "..", "README.md"), encoding="utf-8") as f:
+        text = f.read()
+    shown = text[text.index("    package 0\n"):text.index("The ask returned the sum")].split("\n")
+    picked = []
+    for line in run("replay", records, data).splitlines():
+        words = line.split(" ")
+        if words[0] in ("package", "close", "listing"):
+            picked.append(" ".join(words[:2]))
+        elif words[0] == "line":
+            picked.append(" ".join((words[0], words[1], words[3])))
+        elif line.startswith("out 0a52"):
+            picked.append(line[:60])
+    check("replay: README's load", "".join(line + "\n" for line in picked), [line.strip() for line in shown if line.strip()])
+
+
 # ---- many closes, and input in pieces
 
 def frames():
@@ -442,10 +508,11 @@ def pieces():
     for k in range(700):
         text = b"junk %x" % (k % 2)
         stream += event(k % 512) + line(text) + package(bytes(k)) + reading(*[k] * 8)
-        answer = accepted(0, k, text) if k < 32 else refused(7, text)
+        reply = accepted_echo(0, k, text) if k < 32 else refused_echo(text)
+        answer = answered(0 if k < 32 else 7, reply)
         fits = staged + k <= TABLE_BYTES
         # A package that does not fit leaves the line's echo.
-        placed = "package 0 " + echo(package_echo(staged, k)) if fits else "package 9 " + answer[7:]
+        placed = "package 0 " + echo(package_echo(staged, k)) if fits else "package 9 " + echo(reply)
         staged += k if fits else 0
         want += ["event 0", answer, placed, "reading 0" if k < 60 else "reading 3"]
     for n in (1, 3, 131071):
@@ -547,7 +614,7 @@ def interrupted():
             check(f"{program}: interrupted, no tables.bin", printed + line, ["refused 1"])
 
 
-for case in (start_and_end, ranges, million, columns, samples, readings, commands, zero_bytes, long_bodies, loads, packets, listings, gathers, example, frames, pieces,
+for case in (start_and_end, ranges, million, columns, samples, readings, commands, zero_bytes, long_bodies, loads, asks, bad_bytes, packets, listings, gathers, example, session, frames, pieces,
              pieces_of_minute, held_open, failed_reads, failed_writes, interrupted):
     case()
 print(f"{counts['passed']} passed, {counts['failed']} failed")

@@ -1,11 +1,11 @@
-"""Works out the stored outputs of the programs, crates/*/stdout, from document 01 and compares them;
+"""Works out the stored outputs of the programs, crates/*/stdout, from documents 01 and 02 and compares them;
 that of limit_cases comes from the second implementation (compare.sh).
 
     python3 tests/stored.py             prints what differs; the last line is 'N passed, M failed'
     python3 tests/stored.py --write     writes them anew
 
 No program runs here. The rules are those of paper.py, which is held to "Numbers at the edges" first. The inputs:
-- replay: its stored tables.bin and stdin, which `reference/target/release/streams 228 400 FOLDER` writes;
+- replay: its stored tables.bin and stdin, which `reference/target/release/streams 178 400 FOLDER` writes;
 - minute: the example of document 01, which is its stored stdin;
 - command_cases: command_inputs.py, which its stored stdin is compared with too;
 - sort_cases and packet_cases: those in their sources, repeated below.
@@ -104,7 +104,7 @@ def answer_lines(processor, gatherer, kind, body):
     if kind == 2:
         return [joined("reading", processor.reading(get_numbers(body, 2)))]
     if kind == 3:
-        return [joined("line", processor.line(body), processor.echo.hex())]
+        return [joined("line", processor.line(body), processor.echo.hex(), processor.sum)]
     if kind == 4:
         return close_lines(processor.close(int.from_bytes(body, "big")))
     if kind == 5:
@@ -277,8 +277,16 @@ def line_case(body):
     """The reach in three bytes, and the line: whether its bytes are right, and what it is."""
     line = body[3:]
     command = paper.parse(line, int.from_bytes(body[:3], "big")) if paper.line_bytes_right(line) else None
-    kind = "empty" if not line else joined(*command) if command else "wrong"
-    return f"line bytes {'ok' if paper.line_bytes_right(line) else 'wrong'}, {kind}"
+    return f"line bytes {'ok' if paper.line_bytes_right(line) else 'wrong'}, {line_kind(line, command)}"
+
+
+def line_kind(line, command):
+    """What a line is, its numbers in decimal. Of an ask the word alone is printed: it keeps neither a nor y."""
+    if not line:
+        return "empty"
+    if command is None:
+        return "wrong"
+    return "ask" if command[0] == "ask" else joined(*command)
 
 
 def echo_line(text):

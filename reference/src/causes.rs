@@ -14,8 +14,8 @@ pub const FULL: Number = 3;
 pub const LINE: Number = 4;
 /// An unknown keyword or a wrong argument.
 pub const COMMAND: Number = 5;
-/// A load waits.
-pub const LOAD_WAITS: Number = 6;
+/// A commit waits.
+pub const COMMIT_WAITS: Number = 6;
 /// 32 commands were accepted in this frame.
 pub const COMMANDS_FULL: Number = 7;
 /// A package with no N, N below 2 or N not matching the bytes.
@@ -32,3 +32,7 @@ pub const PACKET_SUM: Number = 12;
 pub const BODY: Number = 13;
 /// No such listing packet: i over 249, or an address that is none of the 250; before 13.
 pub const LISTING_ADDRESS: Number = 14;
+/// An ask or a commit while a staged byte is bad; after 7.
+pub const STAGED_BAD: Number = 15;
+/// A commit whose sum is not that of the staged bytes; after 15.
+pub const COMMIT_SUM: Number = 16;

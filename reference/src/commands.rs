@@ -1,4 +1,5 @@
-//! Document 01, "Commands and loads": settings, command lines and their echoes.
+//! Document 01, "Commands and loads": settings, command lines and their echoes; document 02,
+//! Point 4: ask and commit in place of load.
 
 use crate::loads::Load;
 
@@ -34,16 +35,19 @@ pub enum Command {
     Junk(bool),
     Hv(bool),
     Hvstep(u8),
-    Load(Load),
+    /// A load and the sum that the staged bytes must have when the line comes.
+    Commit(Load, u32),
     // These are carried out when accepted.
     LoadZero,
     LoadAt(usize),
+    Ask(Load),
 }
 
 impl Command {
-    /// Refused by 6 while a load waits.
-    pub fn is_load(&self) -> bool {
-        matches!(self, Command::Load(_) | Command::LoadZero | Command::LoadAt(_))
+    /// Refused by 6 while a commit waits.
+    pub fn is_about_staging(&self) -> bool {
+        use Command::*;
+        matches!(self, Commit(..) | LoadZero | LoadAt(_) | Ask(_))
     }
 }
 
@@ -53,31 +57,23 @@ pub fn printable(line: &[u8]) -> bool {
 }
 
 /// The command of a line, or none for an unknown keyword or a wrong argument.
-/// What the load commands may say depends on the present reach.
+/// What the commands about staging may say depends on the present reach.
 pub fn command(line: &[u8], reach: usize) -> Option<Command> {
     let mut words = line.split(|byte| *byte == b' ');
     let keyword = words.next()?;
-    let first = number(words.next()?)?;
-    let second = match words.next() {
-        Some(word) => Some(number(word)?),
-        None => None,
-    };
-    if words.next().is_some() {
-        return None;
-    }
-    Some(match (keyword, first, second) {
-        (b"limhi", 0..=0x2c0, None) => Command::Limhi(first as u16),
-        (b"eonly", 0..=1, None) => Command::Eonly(first == 1),
-        (b"toferror", 0..=1, None) => Command::Toferror(first == 1),
-        (b"junk", 0..=1, None) => Command::Junk(first == 1),
-        (b"hv", 0..=1, None) => Command::Hv(first == 1),
-        (b"hvstep", 0..=0xff, None) => Command::Hvstep(first as u8),
-        (b"load", 0, None) => Command::LoadZero,
-        (b"loadat", _, None) if first <= reach => Command::LoadAt(first),
-        (b"load", _, Some(y)) => {
-            let load = Load { address: first, bytes_a_word: Load::bytes_a_word(y)? };
-            load.lawful(reach).then_some(Command::Load(load))?
-        }
+    let arguments: Vec<usize> = words.map(number).collect::<Option<_>>()?;
+    Some(match (keyword, &arguments[..]) {
+        (b"limhi", &[value @ 0..=0x2c0]) => Command::Limhi(value as u16),
+        (b"eonly", &[value @ 0..=1]) => Command::Eonly(value == 1),
+        (b"toferror", &[value @ 0..=1]) => Command::Toferror(value == 1),
+        (b"junk", &[value @ 0..=1]) => Command::Junk(value == 1),
+        (b"hv", &[value @ 0..=1]) => Command::Hv(value == 1),
+        (b"hvstep", &[value @ 0..=0xff]) => Command::Hvstep(value as u8),
+        (b"load", [0]) => Command::LoadZero,
+        (b"loadat", &[a]) if a <= reach => Command::LoadAt(a),
+        (b"ask", &[a, y]) => Command::Ask(Load::asked(a, y, reach)?),
+        // Any sum is a right argument: a wrong one is judged later, by 16.
+        (b"commit", &[a, y, sum]) => Command::Commit(Load::asked(a, y, reach)?, sum as u32),
         _ => return None,
     })
 }
@@ -183,9 +179,8 @@ mod tests {
             "load 0 ",
             "loadat",
             "loada 0",
-            "load 7000 0 0",
-            "load 7000  0",
-            "load 7000 0000000",
+            "load 7000 0",
+            "load 0 0",
             "immed 1",
             "binary",
         ] {
@@ -194,27 +189,51 @@ mod tests {
     }
 
     #[test]
-    fn a_load_needs_a_reach_and_words_of_the_tables() {
-        let load = |address, bytes_a_word| Some(Command::Load(Load { address, bytes_a_word }));
-        assert_eq!(at(0, "load 7000 0"), None);
-        assert_eq!(at(1, "load 7000 0"), load(0x7000, 3));
-        assert_eq!(at(1, "load 7000 1"), load(0x7000, 1));
-        assert_eq!(at(1, "load 7000 2"), load(0x7000, 2));
-        assert_eq!(at(1, "load 7000 3"), None);
-        assert_eq!(at(1, "load 6fff 0"), None);
-        assert_eq!(at(1, "load 0 0"), None);
+    fn asks_and_commits_that_no_form_matches() {
+        let wrong = "ask|ask 7000|ask 7000 |ask 7000 0 |ask 7000 0 0|ask 7000  0|ask 7000 0000000\
+            |Ask 7000 0|asks 7000 0|commit|commit 7000|commit 7000 0|commit 7000 0 |commit 7000 0  0\
+            |commit 7000 0 0 0|commit 7000 0 0000000|commit 7000 0 A|commit 7000 0 g|commi 7000 0 0";
+        for line in wrong.split('|') {
+            assert_eq!(at(3, line), None, "{line:?}");
+        }
+    }
+
+    #[test]
+    fn an_ask_needs_a_reach_and_words_of_the_tables() {
+        let ask = |address, bytes_a_word| Some(Command::Ask(Load { address, bytes_a_word }));
+        assert_eq!(at(0, "ask 7000 0"), None);
+        assert_eq!(at(1, "ask 7000 0"), ask(0x7000, 3));
+        assert_eq!(at(1, "ask 7000 1"), ask(0x7000, 1));
+        assert_eq!(at(1, "ask 7000 2"), ask(0x7000, 2));
+        assert_eq!(at(1, "ask 7000 3"), None);
+        assert_eq!(at(1, "ask 6fff 0"), None);
+        assert_eq!(at(1, "ask 0 0"), None);
         // Seven bytes are 3, 7 or 4 words.
-        for (right, wrong) in [
-            ("load c200 0", "load c201 0"),
-            ("load c1fc 1", "load c1fd 1"),
-            ("load c1ff 2", "load c200 2"),
-        ] {
+        for (right, wrong) in
+            [("ask c200 0", "ask c201 0"), ("ask c1fc 1", "ask c1fd 1"), ("ask c1ff 2", "ask c200 2")]
+        {
             assert!(at(7, right).is_some());
             assert_eq!(at(7, wrong), None);
         }
-        assert!(at(62_985, "load 7000 0").is_some());
-        assert_eq!(at(62_985, "load 7001 0"), None);
-        assert_eq!(at(1, "load ffffff 0"), None);
+        assert!(at(62_985, "ask 7000 0").is_some());
+        assert_eq!(at(62_985, "ask 7001 0"), None);
+        assert_eq!(at(1, "ask ffffff 0"), None);
+    }
+
+    #[test]
+    fn a_commit_is_an_ask_with_any_sum() {
+        for reach in [0, 1, 7, 62_985] {
+            for words in ["7000 0", "6fff 0", "7000 3", "c200 0", "c201 0", "c202 1", "7001 0"] {
+                let load = match at(reach, &format!("ask {words}")) {
+                    Some(Command::Ask(load)) => Some(load),
+                    _ => None,
+                };
+                for (digits, sum) in [("0", 0), ("1", 1), ("00000a", 10), ("ffffff", 16_777_215)] {
+                    let commit = at(reach, &format!("commit {words} {digits}"));
+                    assert_eq!(commit, load.map(|load| Command::Commit(load, sum)), "{words}");
+                }
+            }
+        }
     }
 
     #[test]

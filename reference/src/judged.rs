@@ -31,17 +31,17 @@ fn at_most(bound: u32, numbers: &[u32]) -> bool {
     numbers.iter().fold(true, |within, n| within & (*n <= bound))
 }
 
-/// Each waiting command is one that a line gives, and at most one is a load.
+/// Each waiting command is one that a line gives, and at most one is a commit.
 fn waiting_lawful(p: &Processor) -> bool {
     let lawful = |command: &Option<Command>| match command {
         Some(Command::Limhi(value)) => *value as usize <= SLOTS,
-        Some(Command::Load(load)) => load.lawful(p.addresses.reach),
-        Some(Command::LoadZero | Command::LoadAt(_)) | None => false,
+        Some(Command::Commit(load, _)) => load.lawful(p.addresses.reach),
+        Some(Command::LoadZero | Command::LoadAt(_) | Command::Ask(_)) | None => false,
         Some(_) => true,
     };
     let waiting = &p.waiting[..p.waits];
-    let loads = waiting.iter().filter(|c| matches!(c, Some(Command::Load(_)))).count();
-    waiting.iter().all(lawful) && loads <= 1
+    let commits = waiting.iter().filter(|c| matches!(c, Some(Command::Commit(..)))).count();
+    waiting.iter().all(lawful) && commits <= 1
 }
 
 #[inline(never)]
@@ -54,6 +54,12 @@ pub fn event(p: Processor, event: &Event, tables: &[u8], slots: &mut [u32]) -> (
 #[cfg(test)]
 mod tests {
     use super::*;
+
+    #[test]
+    fn a_waiting_command_takes_three_words_at_most() {
+        // 32 of them are handed on by value at every event.
+        assert!(size_of::<Option<Command>>() <= 3 * size_of::<usize>());
+    }
 
     #[test]
     fn a_fresh_state_is_within_limits_and_each_limit_counts() {

@@ -32,17 +32,17 @@ pub struct State {
 pub enum Waiting {
     /// A keyword and its value.
     Set(&'static str, u16),
-    /// load a y.
-    Load(u32, u8),
+    /// commit a y; its sum plays no part while it waits.
+    Commit(u32, u8),
 }
 
 impl Waiting {
-    /// The command that a line gives at this reach, or none "that no line could give". For
-    /// "load" it is lawful at that reach.
+    /// The command that a line gives at this reach, or none "that no line could give". A commit
+    /// is judged by a, y and reach alone.
     fn given(&self, reach: usize) -> Option<Command> {
         let line = match self {
             Waiting::Set(keyword, value) => format!("{keyword} {value:x}"),
-            Waiting::Load(a, y) => format!("load {a:x} {y:x}"),
+            Waiting::Commit(a, y) => format!("commit {a:x} {y:x} 0"),
         };
         command(line.as_bytes(), reach)
     }
@@ -86,16 +86,17 @@ impl State {
     }
 
     /// "accepted commands 32, waiting ones no more; next address ≤ reach ≤ 62,985; settings in
-    /// the ranges below; at most one load waiting, lawful at the present reach".
+    /// the ranges below; at most one load waiting, lawful at the present reach"; what waits
+    /// to load is a commit.
     fn commands_within(&self) -> bool {
         let Addresses { next, reach } = self.addresses;
-        let loads = self.waiting.iter().filter(|one| matches!(one, Waiting::Load(..))).count();
+        let commits = self.waiting.iter().filter(|one| matches!(one, Waiting::Commit(..))).count();
         self.accepted <= 32
             && self.waiting.len() <= self.accepted
             && next <= reach
             && reach <= 62_985
             && self.settings.limhi <= 0x2c0
-            && loads <= 1
+            && commits <= 1
             && self.waiting.iter().all(|one| one.given(reach).is_some())
     }
 
@@ -116,7 +117,7 @@ impl State {
         };
         for (place, one) in p.waiting.iter_mut().zip(&self.waiting) {
             *place = one.given(self.addresses.reach);
-            p.load_waits |= matches!(one, Waiting::Load(..));
+            p.commit_waits |= matches!(one, Waiting::Commit(..));
         }
         p
     }
@@ -154,16 +155,27 @@ pub fn reading(s: &State, counts: &[u16; 8]) -> Number {
     }
 }
 
-pub fn line(s: &State, line: &[u8], echo: &mut [u8]) -> Number {
-    match s.judge(&[(echo.len(), ECHO_BYTES)]) {
-        Ok(mut p) => p.line(line, echo),
+/// The lengths of the buffers that a line and a package are both lent.
+fn staging_lent(staging: &[u8], marks: &[u8], echo: &[u8]) -> [(usize, usize); 3] {
+    [(staging.len(), STAGING_BYTES), (marks.len(), MARK_BYTES), (echo.len(), ECHO_BYTES)]
+}
+
+pub fn line(s: &State, line: &[u8], staging: &[u8], marks: &[u8], echo: &mut [u8]) -> Number {
+    match s.judge(&staging_lent(staging, marks, echo)) {
+        Ok(mut p) => p.line(line, staging, marks, echo).number,
         Err(number) => number,
     }
 }
 
-pub fn package(s: &State, package: &[u8], staging: &mut [u8], echo: &mut [u8]) -> Number {
-    match s.judge(&[(staging.len(), STAGING_BYTES), (echo.len(), ECHO_BYTES)]) {
-        Ok(mut p) => p.package(package, staging, echo),
+pub fn package(
+    s: &State,
+    package: &[u8],
+    staging: &mut [u8],
+    marks: &mut [u8],
+    echo: &mut [u8],
+) -> Number {
+    match s.judge(&staging_lent(staging, marks, echo)) {
+        Ok(mut p) => p.package(package, staging, marks, echo),
         Err(number) => number,
     }
 }
@@ -231,13 +243,13 @@ mod tests {
             assert!(waiting(Waiting::Set(keyword, most), 0).within_limits());
             assert!(!waiting(Waiting::Set(keyword, most + 1), 0).within_limits());
         }
-        assert!(waiting(Waiting::Load(0x7000, 2), 41_990).within_limits());
-        assert!(!waiting(Waiting::Load(0x7000, 2), 41_991).within_limits());
-        assert!(!waiting(Waiting::Load(0x7000, 3), 1).within_limits());
-        let mut two = waiting(Waiting::Load(0x7000, 0), 3);
+        assert!(waiting(Waiting::Commit(0x7000, 2), 41_990).within_limits());
+        assert!(!waiting(Waiting::Commit(0x7000, 2), 41_991).within_limits());
+        assert!(!waiting(Waiting::Commit(0x7000, 3), 1).within_limits());
+        let mut two = waiting(Waiting::Commit(0x7000, 0), 3);
         two.accepted = 2;
         assert!(two.within_limits());
-        two.waiting.push(Waiting::Load(0x7000, 0));
+        two.waiting.push(Waiting::Commit(0x7000, 0));
         assert!(!two.within_limits());
     }
 
@@ -254,8 +266,14 @@ mod tests {
         assert_eq!(reading(&full, &[1; 8]), FULL);
         full.taken += 1;
         assert_eq!(reading(&full, &[1; 8]), BUFFER);
-        assert_eq!(line(&State::fresh(), b"\t", &mut [0; 127]), BUFFER);
-        assert_eq!(line(&State::fresh(), b"\t", &mut [0; 128]), LINE);
+        let (staging, marks) = ([0; STAGING_BYTES], [0; MARK_BYTES]);
+        let tab = |staging: &[u8], marks: &[u8], echo| {
+            line(&State::fresh(), b"\t", staging, marks, &mut [0; ECHO_BYTES + 1][..echo])
+        };
+        assert_eq!(tab(&staging, &marks, 128), LINE);
+        assert_eq!(tab(&staging, &marks, 127), BUFFER);
+        assert_eq!(tab(&staging, &marks[1..], 128), BUFFER);
+        assert_eq!(tab(&staging[1..], &marks, 128), BUFFER);
         assert_eq!(listing(&full, 250, 0, &[0; TABLE_BYTES], &mut [0; 272]), BUFFER);
         full.taken -= 1;
         assert_eq!(listing(&full, 250, 0, &[0; TABLE_BYTES], &mut [0; 272]), LISTING_ADDRESS);

@@ -1,4 +1,7 @@
-//! Document 01, "Commands and loads": the staging area, load packages, packing.
+//! Document 01, "Commands and loads": the staging area, load packages, packing; document 02,
+//! Point 4: which staged bytes are bad.
+
+use std::ops::Range;
 
 use crate::causes::*;
 use crate::tables::*;
@@ -6,6 +9,39 @@ use crate::tables::*;
 pub const STAGING_BYTES: usize = 62_985;
 
 pub type Staging = [u8; STAGING_BYTES];
+
+/// One bit for each staged byte.
+pub const MARK_BYTES: usize = STAGING_BYTES.div_ceil(8);
+
+/// Bit i mod 8 of byte i / 8, the least significant first, is set where the package that wrote
+/// staged byte i last had a wrong sum.
+pub type Marks = [u8; MARK_BYTES];
+
+/// Sets the marks of these staged bytes, or clears them.
+fn mark(marks: &mut Marks, staged: Range<usize>, bad: bool) {
+    for i in staged {
+        let bit = 1 << (i % 8);
+        if bad {
+            marks[i / 8] |= bit;
+        } else {
+            marks[i / 8] &= !bit;
+        }
+    }
+}
+
+pub fn is_bad(marks: &Marks, i: usize) -> bool {
+    marks[i / 8] >> (i % 8) & 1 == 1
+}
+
+/// Whether a staged byte below the reach is bad. Marks from the reach on mean nothing.
+pub fn any_bad(marks: &Marks, reach: usize) -> bool {
+    (0..reach).any(|i| is_bad(marks, i))
+}
+
+/// The sum of the staged bytes below the reach: less than 2^24, since 62,985 x 255 is.
+pub fn staged_sum(staging: &Staging, reach: usize) -> u32 {
+    staging[..reach].iter().map(|byte| *byte as u32).sum()
+}
 
 /// The next address and the reach, the highest end since reset.
 #[derive(Clone, Copy, Debug, PartialEq, Eq)]
@@ -25,8 +61,14 @@ pub struct Placed {
 impl Addresses {
     pub const ZERO: Addresses = Addresses { next: 0, reach: 0 };
 
-    /// Places a package (16-bit N, N - 2 bytes, their sum), whether its sum is right or not.
-    pub fn place(&mut self, package: &[u8], staging: &mut Staging) -> Result<Placed, Number> {
+    /// Places a package (16-bit N, N - 2 bytes, their sum), whether its sum is right or not, and
+    /// marks its bytes accordingly.
+    pub fn place(
+        &mut self,
+        package: &[u8],
+        staging: &mut Staging,
+        marks: &mut Marks,
+    ) -> Result<Placed, Number> {
         let (n, rest) = package.split_first_chunk::<2>().ok_or(PACKAGE)?;
         if u16::from_be_bytes(*n) as usize != rest.len() {
             return Err(PACKAGE);
@@ -40,16 +82,14 @@ impl Addresses {
         staging[address..end].copy_from_slice(bytes);
         self.next = end;
         self.reach = self.reach.max(end);
-        Ok(Placed {
-            address,
-            bytes: bytes.len(),
-            received: u16::from_be_bytes(*sum),
-            computed: bytes.iter().fold(0, |sum, byte| sum.wrapping_add(*byte as u16)),
-        })
+        let received = u16::from_be_bytes(*sum);
+        let computed = bytes.iter().fold(0u16, |sum, byte| sum.wrapping_add(*byte as u16));
+        mark(marks, address..end, received != computed);
+        Ok(Placed { address, bytes: bytes.len(), received, computed })
     }
 }
 
-/// The command "load a y".
+/// The load that "ask a y" asks for and "commit a y sum" commits.
 #[derive(Clone, Copy, Debug, PartialEq, Eq)]
 pub struct Load {
     pub address: usize,
@@ -60,6 +100,12 @@ impl Load {
     /// y 0 is three bytes a word, y 1 one, y 2 two.
     pub fn bytes_a_word(y: usize) -> Option<usize> {
         [3, 1, 2].get(y).copied()
+    }
+
+    /// The load of arguments a and y; none if y is none of these or it is not lawful.
+    pub fn asked(a: usize, y: usize, reach: usize) -> Option<Load> {
+        let load = Load { address: a, bytes_a_word: Load::bytes_a_word(y)? };
+        load.lawful(reach).then_some(load)
     }
 
     /// Reach at least 1 and all words in 7000 to C202.
@@ -84,7 +130,7 @@ mod tests {
     use super::*;
 
     fn placed(addresses: &mut Addresses, staging: &mut Staging, package: &[u8]) -> Number {
-        match addresses.place(package, staging) {
+        match addresses.place(package, staging, &mut [0; MARK_BYTES]) {
             Ok(placed) => assert_eq!(placed.received, placed.computed),
             Err(number) => return number,
         }
@@ -134,6 +180,61 @@ mod tests {
         let package = [&260u16.to_be_bytes()[..], &[255; 258], &[0, 254]].concat();
         let (mut addresses, mut staging) = (Addresses::ZERO, [0; STAGING_BYTES]);
         assert_eq!(placed(&mut addresses, &mut staging, &package), DONE);
+    }
+
+    /// Places packages of one byte after the other, from the given addresses on, each with a right
+    /// or a wrong sum; then says of bytes 0 to 19 which are bad.
+    fn bad_bytes(packages: &[(usize, usize, bool)]) -> String {
+        let (mut addresses, mut staging) = (Addresses::ZERO, [0; STAGING_BYTES]);
+        let mut marks = [0; MARK_BYTES];
+        for (next, bytes, right) in packages {
+            addresses.next = *next;
+            let n = (*bytes as u16 + 2).to_be_bytes();
+            let sum = [0, !right as u8];
+            let package = [&n[..], &vec![0; *bytes], &sum].concat();
+            assert!(addresses.place(&package, &mut staging, &mut marks).is_ok());
+        }
+        (0..20).map(|i| if is_bad(&marks, i) { 'x' } else { '.' }).collect()
+    }
+
+    #[test]
+    fn the_last_package_decides_whether_a_byte_is_bad() {
+        assert_eq!(bad_bytes(&[(0, 20, true)]), "....................");
+        assert_eq!(bad_bytes(&[(3, 10, false)]), "...xxxxxxxxxx.......");
+        // A right one over it: elsewhere, before, behind, inside, wholly.
+        assert_eq!(bad_bytes(&[(3, 10, false), (13, 7, true)]), "...xxxxxxxxxx.......");
+        assert_eq!(bad_bytes(&[(3, 10, false), (0, 4, true)]), "....xxxxxxxxx.......");
+        assert_eq!(bad_bytes(&[(3, 10, false), (12, 8, true)]), "...xxxxxxxxx........");
+        assert_eq!(bad_bytes(&[(3, 10, false), (7, 2, true)]), "...xxxx..xxxx.......");
+        assert_eq!(bad_bytes(&[(3, 10, false), (3, 10, true)]), "....................");
+        assert_eq!(bad_bytes(&[(0, 20, true), (8, 1, false)]), "........x...........");
+        // One of no bytes marks nothing.
+        assert_eq!(bad_bytes(&[(5, 0, false)]), "....................");
+    }
+
+    #[test]
+    fn marks_are_bits_the_least_significant_first() {
+        // 62,985 = 8 x 7,873 + 1.
+        assert_eq!(MARK_BYTES, 7_874);
+        let mut marks = [0; MARK_BYTES];
+        mark(&mut marks, 3..10, true);
+        assert_eq!(marks[..3], [0b1111_1000, 0b11, 0]);
+        mark(&mut marks, 62_984..62_985, true);
+        assert_eq!(marks[7_872..], [0, 1]);
+        mark(&mut marks, 0..9, false);
+        assert_eq!(marks[..3], [0, 0b10, 0]);
+        for (reach, bad) in [(0, false), (9, false), (10, true), (62_985, true)] {
+            assert_eq!(any_bad(&marks, reach), bad, "{reach}");
+        }
+    }
+
+    #[test]
+    fn the_sum_of_staged_bytes_ends_before_the_reach() {
+        let mut staging = [0; STAGING_BYTES];
+        staging[..4].copy_from_slice(&[1, 2, 4, 255]);
+        assert_eq!([0, 1, 2, 3, 4, 5].map(|reach| staged_sum(&staging, reach)), [0, 1, 3, 7, 262, 262]);
+        // Plain, not modulo 65,536: 62,985 x 255 = 16,061,175.
+        assert_eq!(staged_sum(&[255; STAGING_BYTES], STAGING_BYTES), 16_061_175);
     }
 
     #[test]

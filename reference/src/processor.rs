@@ -28,8 +28,16 @@ pub struct Processor {
     /// Those that wait until close, in order.
     pub waiting: [Option<Command>; MOST_COMMANDS],
     pub waits: usize,
-    pub load_waits: bool,
+    pub commit_waits: bool,
     pub addresses: Addresses,
+}
+
+/// What a line returns beside its echo.
+#[derive(Clone, Copy, Debug, PartialEq, Eq)]
+pub struct LineAnswer {
+    pub number: Number,
+    /// An accepted ask's sum of the staged bytes; 0 of every other line.
+    pub sum: u32,
 }
 
 /// What close returns; all zero if it is refused.
@@ -54,7 +62,7 @@ impl Processor {
         accepted: 0,
         waiting: [None; MOST_COMMANDS],
         waits: 0,
-        load_waits: false,
+        commit_waits: false,
         addresses: Addresses::ZERO,
     };
 
@@ -96,65 +104,86 @@ impl Processor {
     }
 
     /// One command line.
-    pub fn line(&mut self, line: &[u8], echo: &mut [u8]) -> Number {
-        let Ok(echo) = <&mut Echo>::try_from(echo) else {
-            return BUFFER;
+    pub fn line(&mut self, line: &[u8], staging: &[u8], marks: &[u8], echo: &mut [u8]) -> LineAnswer {
+        let alone = |number| LineAnswer { number, sum: 0 };
+        let (Ok(staging), Ok(marks), Ok(echo)) =
+            (<&Staging>::try_from(staging), <&Marks>::try_from(marks), <&mut Echo>::try_from(echo))
+        else {
+            return alone(BUFFER);
         };
         if !printable(line) {
-            return LINE;
+            return alone(LINE);
         }
         if line.is_empty() {
             echo_empty(echo);
-            return DONE;
+            return alone(DONE);
         }
-        match self.judge(line) {
+        match self.judge(line, staging, marks) {
             Ok(command) => {
                 echo_accepted(echo, self.frame, self.accepted, line);
-                self.accept(command);
-                DONE
+                LineAnswer { number: DONE, sum: self.accept(command, staging) }
             }
             Err(number) => {
                 echo_refused(echo, line);
-                number
+                alone(number)
             }
         }
     }
 
-    /// The command of a line that is not empty, or 5, 6 or 7.
-    fn judge(&self, line: &[u8]) -> Result<Command, Number> {
-        let command = command(line, self.addresses.reach).ok_or(COMMAND)?;
-        if self.load_waits && command.is_load() {
-            return Err(LOAD_WAITS);
+    /// The command of a line that is not empty, or 5, 6, 7, 15 or 16.
+    fn judge(&self, line: &[u8], staging: &Staging, marks: &Marks) -> Result<Command, Number> {
+        let reach = self.addresses.reach;
+        let command = command(line, reach).ok_or(COMMAND)?;
+        if self.commit_waits && command.is_about_staging() {
+            return Err(COMMIT_WAITS);
         }
         if self.accepted >= MOST_COMMANDS {
             return Err(COMMANDS_FULL);
         }
-        Ok(command)
+        if matches!(command, Command::Ask(_) | Command::Commit(..)) && any_bad(marks, reach) {
+            return Err(STAGED_BAD);
+        }
+        match command {
+            Command::Commit(_, sum) if sum != staged_sum(staging, reach) => Err(COMMIT_SUM),
+            _ => Ok(command),
+        }
     }
 
-    fn accept(&mut self, command: Command) {
+    /// Counts the command, and carries it out or lets it wait. The sum if it asks for one, or 0.
+    fn accept(&mut self, command: Command, staging: &Staging) -> u32 {
         self.accepted += 1;
         match command {
             Command::LoadZero => self.addresses = Addresses::ZERO,
             Command::LoadAt(address) => self.addresses.next = address,
+            Command::Ask(_) => return staged_sum(staging, self.addresses.reach),
             _ => {
                 self.waiting[self.waits] = Some(command);
                 self.waits += 1;
-                self.load_waits |= matches!(command, Command::Load(_));
+                self.commit_waits |= matches!(command, Command::Commit(..));
             }
         }
+        0
     }
 
     /// One load package.
-    pub fn package(&mut self, package: &[u8], staging: &mut [u8], echo: &mut [u8]) -> Number {
-        let (Ok(staging), Ok(echo)) = (<&mut Staging>::try_from(staging), <&mut Echo>::try_from(echo))
-        else {
+    pub fn package(
+        &mut self,
+        package: &[u8],
+        staging: &mut [u8],
+        marks: &mut [u8],
+        echo: &mut [u8],
+    ) -> Number {
+        let (Ok(staging), Ok(marks), Ok(echo)) = (
+            <&mut Staging>::try_from(staging),
+            <&mut Marks>::try_from(marks),
+            <&mut Echo>::try_from(echo),
+        ) else {
             return BUFFER;
         };
-        if self.load_waits {
-            return LOAD_WAITS;
+        if self.commit_waits {
+            return COMMIT_WAITS;
         }
-        match self.addresses.place(package, staging) {
+        match self.addresses.place(package, staging, marks) {
             Ok(p) => {
                 echo_package(echo, p.address, p.bytes, p.received, p.computed);
                 if p.received == p.computed {
@@ -250,11 +279,11 @@ impl Processor {
             Command::Junk(value) => settings.junk = value,
             Command::Hv(value) => settings.hv = value,
             Command::Hvstep(value) => settings.hvstep = value,
-            Command::Load(load) => {
+            Command::Commit(load, _) => {
                 load.run(&staging[..self.addresses.reach], tables);
                 self.addresses = Addresses::ZERO;
             }
-            Command::LoadZero | Command::LoadAt(_) => {} // never waits
+            Command::LoadZero | Command::LoadAt(_) | Command::Ask(_) => {} // never waits
         }
     }
 }
@@ -405,22 +434,26 @@ mod tests {
     }
 
     #[test]
-    fn a_waiting_load() {
+    fn a_waiting_commit() {
         let mut station = station([128 + 60, 1, 0]);
-        assert_eq!(station.line(b"load c200 0"), COMMAND); // reach 0
+        assert_eq!(station.line(b"commit c200 0 0"), COMMAND); // reach 0
         assert_eq!(package(&mut station, &[1, 0, 1]), DONE);
         assert_eq!(echo(&station), "binary A:00000000 N:00000003 OK\r\nSIT> ");
-        assert_eq!(station.line(b"load c200 0"), DONE);
-        for line in ["load c200 0", "load 0", "loadat 0", "loadat 3"] {
-            assert_eq!(station.line(line.as_bytes()), LOAD_WAITS);
-            assert_eq!(echo(&station), format!("{line}?\r\nSIT> "));
+        assert_eq!(station.line(b"load c200 0"), COMMAND); // no longer a command
+        assert_eq!(station.line(b"commit c200 0 2"), DONE);
+        assert_eq!((echo(&station), station.sum), ("0000 commit c200 0 2\r\nSIT> ".into(), 0));
+        for line in
+            ["commit c200 0 2", "commit c200 0 3", "ask c200 0", "load 0", "loadat 0", "loadat 3"]
+        {
+            assert_eq!(station.line(line.as_bytes()), COMMIT_WAITS);
+            assert_eq!((echo(&station), station.sum), (format!("{line}?\r\nSIT> "), 0));
         }
-        for line in ["load 1", "loadat 4", "load 6fff 0", "load c200 3"] {
+        for line in ["load 1", "loadat 4", "ask 6fff 0", "commit c200 3 2", "load c200 0"] {
             assert_eq!(station.line(line.as_bytes()), COMMAND);
         }
         assert_eq!(station.line(b"hv 1"), DONE);
         for any in [&[][..], &[0, 2, 0, 0], &[0, 3, 0, 0, 1]] {
-            assert_eq!(station.package(any), LOAD_WAITS);
+            assert_eq!(station.package(any), COMMIT_WAITS);
         }
         assert_eq!(echo(&station), "0001 hv 1\r\nSIT> ");
         // Khi becomes 65,537, so u -1: out of bounds, but only after the close.
@@ -440,19 +473,113 @@ mod tests {
     }
 
     #[test]
+    fn an_ask_changes_only_echo_and_sequence() {
+        let mut station = station([8, 0, 0]);
+        package(&mut station, &[255, 255, 2]);
+        let before = station.clone();
+        assert_eq!(station.line(b"ask c200 0"), DONE);
+        assert_eq!((echo(&station), station.sum), ("0000 ask c200 0\r\nSIT> ".into(), 512));
+        assert_eq!(station.line(b"ask 7000 1"), DONE);
+        assert_eq!((echo(&station), station.sum), ("0001 ask 7000 1\r\nSIT> ".into(), 512));
+        let counted = Processor { accepted: 2, ..before.processor };
+        assert_eq!(format!("{:?}", station.processor), format!("{counted:?}"));
+        assert_eq!((&station.staging, &station.marks), (&before.staging, &before.marks));
+        // Every other line answers with the sum 0.
+        for line in ["", "hv 1", "commit c200 0 200", "ask c200 0"] {
+            station.line(line.as_bytes());
+            assert_eq!(station.sum, 0, "{line:?}");
+        }
+        station.close(0);
+        let words = &station.tables[position(KHI)..];
+        assert_eq!(words[..6], [255, 255, 2, 0, 0, 0]);
+    }
+
+    #[test]
+    fn asks_and_commits_count_among_the_32() {
+        let mut station = station([8, 0, 0]);
+        package(&mut station, &[1]);
+        for _ in 0..31 {
+            assert_eq!(station.line(b"ask 7000 0"), DONE);
+        }
+        assert_eq!(station.line(b"commit 7000 0 1"), DONE);
+        assert_eq!(echo(&station), "001f commit 7000 0 1\r\nSIT> ");
+        assert_eq!(station.line(b"hv 1"), COMMANDS_FULL);
+        assert_eq!(station.line(b"ask 7000 0"), COMMIT_WAITS);
+        station.close(0);
+        assert_eq!(station.tables[..3], [1, 0, 0]);
+        // 32 again; then 7 comes before 15 and 16.
+        assert_eq!(station.package(&[0, 3, 1, 0, 2]), PACKAGE_SUM);
+        assert_eq!(station.line(b"commit 7000 0 2"), STAGED_BAD);
+        for _ in 0..32 {
+            assert_eq!(station.line(b"hv 1"), DONE);
+        }
+        for line in ["ask 7000 0", "commit 7000 0 1", "commit 7000 0 2"] {
+            assert_eq!(station.line(line.as_bytes()), COMMANDS_FULL);
+            assert_eq!((echo(&station), station.sum), (format!("{line}?\r\nSIT> "), 0));
+        }
+    }
+
+    #[test]
+    fn a_bad_byte_is_15_until_a_right_package_writes_it() {
+        let mut station = station([8, 0, 0]);
+        assert_eq!(package(&mut station, &[1, 2]), DONE);
+        assert_eq!(station.package(&[0, 4, 3, 4, 0, 8]), PACKAGE_SUM);
+        let asked = |station: &mut Station, numbers: [Number; 3]| {
+            let lines = ["ask 7000 0", "commit 7000 0 ff", "commit 7000 0 11"];
+            for (line, number) in lines.iter().zip(numbers) {
+                assert_eq!(station.line(line.as_bytes()), number);
+                if number != DONE {
+                    assert_eq!((echo(station), station.sum), (format!("{line}?\r\nSIT> "), 0));
+                }
+            }
+        };
+        asked(&mut station, [STAGED_BAD; 3]);
+        station.line(b"loadat 2");
+        package(&mut station, &[5]); // byte 3 is still bad
+        asked(&mut station, [STAGED_BAD; 3]);
+        package(&mut station, &[9]); // 1 + 2 + 5 + 9 = 17, 11 hex
+        asked(&mut station, [DONE, COMMIT_SUM, DONE]);
+        station.close(0);
+        assert_eq!(station.tables[..7], [1, 2, 5, 9, 0, 0, 0]);
+    }
+
+    #[test]
+    fn marks_from_the_reach_on_mean_nothing() {
+        let mut station = station([8, 0, 0]);
+        station.marks.fill(255);
+        assert_eq!(package(&mut station, &[7, 7]), DONE);
+        assert_eq!(station.marks[..2], [0b1111_1100, 255]);
+        assert_eq!(station.line(b"ask 7000 0"), DONE);
+        assert_eq!(station.sum, 14);
+        // After a reset the bytes below the reach are written again, whatever marks are left.
+        assert_eq!(station.package(&[0, 4, 1, 1, 0, 1]), PACKAGE_SUM);
+        assert_eq!(station.line(b"ask 7000 0"), STAGED_BAD);
+        assert_eq!(station.line(b"load 0"), DONE);
+        assert_eq!(station.line(b"ask 7000 0"), COMMAND);
+        assert_eq!(package(&mut station, &[1, 2, 3]), DONE);
+        assert_eq!(station.marks[..2], [0b1111_1000, 255]);
+        assert_eq!(station.line(b"commit 7000 0 6"), DONE);
+    }
+
+    #[test]
     fn a_package_with_a_wrong_sum_is_placed() {
         let mut station = station([8, 0, 0]);
         assert_eq!(station.package(&[0, 4, 1, 2, 0, 4]), PACKAGE_SUM);
         assert_eq!(echo(&station), "binary A:00000000 N:00000002 ckserr 00000004 00000003\r\nSIT> ");
         assert_eq!(station.processor.addresses, Addresses { next: 2, reach: 2 });
         assert_eq!(station.staging[..2], [1, 2]);
+        assert_eq!(station.marks[0], 0b11);
         assert_eq!(station.line(b"loadat 1"), DONE);
         assert_eq!(package(&mut station, &[9]), DONE);
         assert_eq!(echo(&station), "binary A:00000001 N:00000001 OK\r\nSIT> ");
+        assert_eq!(station.marks[0], 0b01);
+        assert_eq!(station.package(&[0, 2, 0, 1]), PACKAGE_SUM); // of no bytes
+        assert_eq!(station.marks[0], 0b01);
         assert_eq!(station.line(b"load 0"), DONE);
         assert_eq!(station.processor.addresses, Addresses::ZERO);
         assert_eq!(station.package(&[0, 3, 1]), PACKAGE);
         assert_eq!(echo(&station), "0001 load 0\r\nSIT> ");
+        assert_eq!(station.marks[0], 0b01);
     }
 
     #[test]
@@ -487,9 +614,13 @@ mod tests {
         let p = &mut s.processor;
         assert_eq!(p.event(&STOP, &s.tables[1..], &mut s.slots), BUFFER);
         assert_eq!(p.event(&STOP, &s.tables, &mut s.slots[1..]), BUFFER);
-        assert_eq!(p.line(&[0; 81], &mut s.echo[1..]), BUFFER);
-        assert_eq!(p.package(&[], &mut s.staging[1..], &mut s.echo), BUFFER);
-        assert_eq!(p.package(&[], &mut s.staging, &mut s.echo[1..]), BUFFER);
+        let refused = LineAnswer { number: BUFFER, sum: 0 };
+        assert_eq!(p.line(&[0; 81], &s.staging, &s.marks, &mut s.echo[1..]), refused);
+        assert_eq!(p.line(&[0; 81], &s.staging, &s.marks[1..], &mut s.echo), refused);
+        assert_eq!(p.line(&[0; 81], &s.staging[1..], &s.marks, &mut s.echo), refused);
+        assert_eq!(p.package(&[], &mut s.staging[1..], &mut s.marks, &mut s.echo), BUFFER);
+        assert_eq!(p.package(&[], &mut s.staging, &mut s.marks[1..], &mut s.echo), BUFFER);
+        assert_eq!(p.package(&[], &mut s.staging, &mut s.marks, &mut s.echo[1..]), BUFFER);
         assert_eq!(p.listing(250, 0, &s.tables[1..], &mut s.listed), BUFFER);
         assert_eq!(p.listing(250, 0, &s.tables, &mut s.listed[1..]), BUFFER);
         let closed = p.close(0, &mut s.tables, &s.staging, &mut s.slots, &mut s.output[1..]);

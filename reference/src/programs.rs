@@ -82,7 +82,8 @@ fn replay(station: &mut Station, call: Call, out: &mut impl Write) -> Result<()>
         Call::Reading(counts) => writeln!(out, "reading {}", station.reading(&counts)),
         Call::Line(line) => {
             write!(out, "line {} ", station.line(&line))?;
-            digits(out, &station.echo)
+            hex(out, &station.echo)?;
+            writeln!(out, " {}", station.sum)
         }
         Call::Package(package) => {
             write!(out, "package {} ", station.package(&package))?;
@@ -174,9 +175,13 @@ fn numbers(out: &mut impl Write, name: &str, values: &[u32]) -> Result<()> {
 
 /// The bytes as digits 0-9 a-f, and the end of the line.
 fn digits(out: &mut impl Write, bytes: &[u8]) -> Result<()> {
+    hex(out, bytes)?;
+    writeln!(out)
+}
+
+fn hex(out: &mut impl Write, bytes: &[u8]) -> Result<()> {
     const DIGITS: &[u8; 16] = b"0123456789abcdef";
     let pair = |byte: &u8| [DIGITS[(byte >> 4) as usize], DIGITS[(byte & 15) as usize]];
-    let mut text: Vec<u8> = bytes.iter().flat_map(pair).collect();
-    text.push(b'\n');
+    let text: Vec<u8> = bytes.iter().flat_map(pair).collect();
     out.write_all(&text)
 }

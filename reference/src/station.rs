@@ -5,7 +5,7 @@ use crate::causes::Number;
 use crate::commands::ECHO_BYTES;
 use crate::gatherer::Gatherer;
 use crate::judged;
-use crate::loads::STAGING_BYTES;
+use crate::loads::{MARK_BYTES, STAGING_BYTES};
 use crate::packets::{OUTPUT_BYTES, PACKET_BYTES};
 use crate::processor::{Closed, Processor};
 use crate::samples::SLOTS;
@@ -17,8 +17,12 @@ pub struct Station {
     pub processor: Processor,
     pub tables: Vec<u8>,
     pub staging: Vec<u8>,
+    /// Which staged bytes are bad.
+    pub marks: Vec<u8>,
     pub slots: Vec<u32>,
     pub echo: [u8; ECHO_BYTES],
+    /// The sum that the last line was answered with.
+    pub sum: u32,
     pub output: Vec<u8>,
     /// The listing packet written last.
     pub listed: [u8; PACKET_BYTES],
@@ -36,8 +40,10 @@ impl Station {
             processor: Processor::FRESH,
             tables,
             staging: vec![0; STAGING_BYTES],
+            marks: vec![0; MARK_BYTES],
             slots: vec![0; SLOTS],
             echo: [0; ECHO_BYTES],
+            sum: 0,
             output: vec![0; OUTPUT_BYTES],
             listed: [0; PACKET_BYTES],
             gatherer: Gatherer::FRESH,
@@ -61,11 +67,14 @@ impl Station {
     }
 
     pub fn line(&mut self, line: &[u8]) -> Number {
-        self.processor.line(line, &mut self.echo)
+        let answer = self.processor.line(line, &self.staging, &self.marks, &mut self.echo);
+        self.sum = answer.sum;
+        answer.number
     }
 
     pub fn package(&mut self, package: &[u8]) -> Number {
-        self.processor.package(package, &mut self.staging, &mut self.echo)
+        let Station { processor, staging, marks, echo, .. } = self;
+        processor.package(package, staging, marks, echo)
     }
 
     pub fn close(&mut self, time: u32) -> Closed {

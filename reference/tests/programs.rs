@@ -107,13 +107,48 @@ fn replay_prints_the_whole_echo_buffer() {
             .concat();
     let package = digits(b"binary A:00000000 N:00000001 OK\r\nSIT> ", 128);
     let expected = [
-        format!("line 0 {}\n", digits(b"SIT> ", 128)),
-        format!("line 4 {}\n", digits(b"SIT> ", 128)),
-        format!("line 0 {}\n", digits(b"0000 hv 1\r\nSIT> ", 128)),
+        format!("line 0 {} 0\n", digits(b"SIT> ", 128)),
+        format!("line 4 {} 0\n", digits(b"SIT> ", 128)),
+        format!("line 0 {} 0\n", digits(b"0000 hv 1\r\nSIT> ", 128)),
         format!("package 0 {package}\n"),
         format!("package 8 {package}\n"),
     ];
     assert_eq!(run(Form::Replay, &stream), expected.concat());
+}
+
+fn replay_line(text: &[u8]) -> Vec<u8> {
+    [&[3, 0, text.len() as u8], text].concat()
+}
+
+#[test]
+fn replay_prints_the_sum_behind_the_echo() {
+    // Bytes 255, 255 and 3: their sum is 513, 201 hex. The package's own is one too many at first.
+    let package = |sum| [5, 0, 7, 0, 5, 255, 255, 3, 2, sum];
+    let (wrong, right) = (package(2), package(1));
+    let mut stream =
+        [&wrong[..], &replay_line(b"ask 7000 0"), &replay_line(b"loadat 0"), &right].concat();
+    for line in ["ask 7000 0", "commit 7000 0 200", "commit 7000 0 201", "ask 7000 0"] {
+        stream.extend(replay_line(line.as_bytes()));
+    }
+    let echo = |text: &str| digits(format!("{text}\r\nSIT> ").as_bytes(), 128);
+    let expected = [
+        format!("package 10 {}", echo("binary A:00000000 N:00000003 ckserr 00000202 00000201")),
+        format!("line 15 {} 0", echo("ask 7000 0?")),
+        format!("line 0 {} 0", echo("0000 loadat 0")),
+        format!("package 0 {}", echo("binary A:00000000 N:00000003 OK")),
+        format!("line 0 {} 513", echo("0001 ask 7000 0")),
+        format!("line 16 {} 0", echo("commit 7000 0 200?")),
+        format!("line 0 {} 0", echo("0002 commit 7000 0 201")),
+        format!("line 6 {} 0", echo("ask 7000 0?")),
+    ];
+    assert_eq!(run(Form::Replay, &stream), expected.join("\n") + "\n");
+}
+
+#[test]
+fn minute_has_nothing_to_ask_for() {
+    let lines =
+        ["ask 7000 0", "commit 7000 0 0", "load 7000 0"].map(|line| minute_line(line.as_bytes()));
+    assert_eq!(run(Form::Minute, &lines.concat()), "refused 5\n".repeat(3));
 }
 
 #[test]

@@ -1,8 +1,10 @@
 //! What must hold of every generated stream: the box balances and the sample rule, each
-//! computed from the whole list of an interval's events; what a gatherer says, from the whole
-//! list of packets given to it; and that all causes occur.
+//! computed from the whole list of an interval's events; what asks and commits answer, from the
+//! whole list of packages; what a gatherer says, from the whole list of packets given to it; and
+//! that all causes occur.
 
 use std::collections::BTreeSet;
+use std::ops::Range;
 
 use reference::calls::{read, Call, Form};
 use reference::generate::{stories, Stream};
@@ -129,6 +131,79 @@ fn u_of(event: &Event, station: &Station) -> Option<i32> {
     Some(e + t + 65_536)
 }
 
+/// A package that was placed: its addresses, and whether its sum was wrong.
+type Placed = (Range<usize>, bool);
+
+/// Whether some byte below the reach was last written by a package with a wrong sum.
+fn bad_below(reach: usize, placed: &[Placed]) -> bool {
+    let last = |i: usize| placed.iter().rfind(|(bytes, _)| bytes.contains(&i));
+    (0..reach).any(|i| last(i).is_some_and(|(_, wrong)| *wrong))
+}
+
+fn place(station: &mut Station, package: &[u8], placed: &mut Vec<Placed>) {
+    let from = station.processor.addresses.next;
+    let number = station.package(package);
+    if [0, 10].contains(&number) {
+        placed.push((from..station.processor.addresses.next, number == 10));
+    }
+}
+
+/// A line that may be an ask or a commit; of these its keyword and number.
+fn check_line(station: &mut Station, line: &[u8], placed: &[Placed]) -> Option<(String, u8)> {
+    let reach = station.processor.addresses.reach;
+    let number = station.line(line);
+    let text = String::from_utf8_lossy(line);
+    let words: Vec<&str> = text.split(' ').collect();
+    let sum: u32 = station.staging[..reach].iter().map(|byte| *byte as u32).sum();
+    if !["ask", "commit"].contains(&words[0]) {
+        assert_eq!(station.sum, 0);
+        return None;
+    }
+    assert_eq!(station.sum, if (words[0], number) == ("ask", 0) { sum } else { 0 });
+    // Past 5, 6 and 7 only the bytes and, of a commit, the sum decide.
+    if [0, 15, 16].contains(&number) {
+        let another = words[0] == "commit" && u32::from_str_radix(words[3], 16) != Ok(sum);
+        let expected = if bad_below(reach, placed) { 15 } else { 16 * another as u8 };
+        assert_eq!(number, expected, "{text}");
+    }
+    Some((words[0].to_string(), number))
+}
+
+#[test]
+fn asks_and_commits_answer_by_all_packages_before_them() {
+    let mut seen = BTreeSet::new();
+    let (mut repaired, mut listed) = (0, 0);
+    for seed in 0..12 {
+        let (mut placed, mut bad, mut loaded) = (Vec::new(), false, false);
+        carried_out(seed, |station, call| {
+            match call {
+                Call::Package(package) => place(station, package, &mut placed),
+                Call::Line(line) => {
+                    let Some((keyword, number)) = check_line(station, line, &placed) else {
+                        return true;
+                    };
+                    repaired += (bad && number == 0) as usize;
+                    bad = number == 15;
+                    seen.insert((keyword, number));
+                }
+                Call::Close(time) => {
+                    loaded = station.processor.commit_waits;
+                    station.close(*time);
+                }
+                Call::Listing(..) => listed += loaded as usize,
+                _ => return false,
+            }
+            true
+        });
+    }
+    for (keyword, numbers) in [("ask", &[0, 5, 6, 7, 15][..]), ("commit", &[0, 5, 6, 7, 15, 16])] {
+        for number in numbers {
+            assert!(seen.contains(&(keyword.to_string(), *number)), "{keyword} {number}");
+        }
+    }
+    assert!(repaired > 10 && listed > 10, "{repaired} repaired, {listed} listed");
+}
+
 /// The gatherer's buffer and how many are missing, from all packets it accepted.
 fn check_gathered(station: &Station, accepted: &[Vec<u8>]) {
     let from = |i: usize| {
@@ -195,7 +270,7 @@ fn every_cause_of_a_short_stream_occurs() {
     };
     all("event", &[0, 2]); // 3 needs a million events
     all("reading", &[0, 3]);
-    all("line", &[0, 4, 5, 6, 7]);
+    all("line", &[0, 4, 5, 6, 7, 15, 16]);
     all("package", &[0, 6, 8, 9, 10]);
     all("packet", &[0, 11, 12, 13]);
     all("listing", &[0, 14]);

@@ -1,33 +1,109 @@
 -- What a line that is accepted has passed, check by check, and the numbers that refuse it. Assumes nothing.
-use mathlib.Core.Path.{_≡_, refl}
-use mathlib.Core.Bool.{Bool, true, false, _&&_, not, cond}
+use mathlib.Core.Path.{_≡_, refl, sym, ap, _∙_, subst}
+use mathlib.Core.Bool.{Bool, true, false, _&&_, not, cond, true≢false}
+use mathlib.Core.List.{[], _∷_}
 use Prim.Native.Nat.{ℕ}
+use borrow.Author.Tests.{ne-eqb}
 use lib.Dec.{leb}
 use Rattle.causes.specs.Checks.{numberBy}
 use Rattle.causes.proofs.CheckLaws.{all-passed}
 use Rattle.command.specs.declared.command.Line.{Line}
-use Rattle.command.specs.Asked.{isWrong, isCommand, usesStaging}
-use Rattle.accepted_line.specs.Told.{commandChecks}
+use Rattle.command.specs.declared.command.Line.the-variants.{Empty, Wrong, Waits, LoadZero, LoadAt, Ask, Commit}
+use Rattle.command.specs.Asked.{isWrong, isCommand, usesStaging, asksLoad, sumAgrees}
+use Rattle.accepted_line.specs.declared.Judged.{Judged}
+use Rattle.accepted_line.specs.Told.{ownChecks, stagedChecks, commandChecks, sumTold}
+use Rattle.accepted_line.specs.Judged.{JudgedAs}
 
--- a command that is accepted is right, finds no load waiting where that would block it, and is one of at most 32
-pub record Accepts (waits full : Bool) (l : Line) : Type 0 where
+-- a command that is accepted is right, finds no load waiting where that would block it, is one of at most 32, and finds no bad byte
+-- and the right sum where it is about a load
+pub record Accepts (waits full good : Bool) (sum : ℕ) (l : Line) : Type 0 where
   pub right : not (isWrong l) ≡ true
   pub free : not (usesStaging l && waits) ≡ true
   pub room : not (isCommand l && full) ≡ true
+  pub sound : not (asksLoad l && not good) ≡ true
+  pub agrees : sumAgrees l sum ≡ true
 
-pub command-accepts : (waits full : Bool) (l : Line) → numberBy (commandChecks waits full l) ≡ 0 → Accepts waits full l
-command-accepts waits full l h =
-    let p = all-passed (commandChecks waits full l) refl h in
-    record { right = p .0; free = p .1 .0; room = p .1 .1 .0 }
+pub command-accepts : (waits full good : Bool) (sum : ℕ) (l : Line) → numberBy (commandChecks waits full good sum l) ≡ 0
+    → Accepts waits full good sum l
+command-accepts waits full good sum l h =
+    let p = all-passed (commandChecks waits full good sum l) refl h in
+    record { right = p .0; free = p .1 .0; room = p .1 .1 .0; sound = p .1 .1 .1 .0; agrees = p .1 .1 .1 .1 .0 }
 
--- a number of a command that is not 0 is 5, 6 or 7
-pub command-five : (wrong staging command waits full : Bool)
-    → (_≡_ {A = ℕ} (cond (not wrong) (cond (not (staging && waits)) (cond (not (command && full)) 0 7) 6) 5) 0 → ⊥)
-    → leb 5 (cond (not wrong) (cond (not (staging && waits)) (cond (not (command && full)) 0 7) 6) 5) ≡ true
-command-five true staging command waits full h = refl
-command-five false staging command waits full h = go (not (staging && waits)) (not (command && full)) h
+-- a number of a command that is not 0 is 5 or above
+pub command-five : (waits full good : Bool) (sum : ℕ) (l : Line) → (numberBy (commandChecks waits full good sum l) ≡ 0 → ⊥)
+    → leb 5 (numberBy (commandChecks waits full good sum l)) ≡ true
+command-five waits full good sum l h =
+    go (not (isWrong l)) (not (usesStaging l && waits)) (not (isCommand l && full)) (not (asksLoad l && not good)) (sumAgrees l sum) h
   where
-    go : (b c : Bool) → (_≡_ {A = ℕ} (cond b (cond c 0 7) 6) 0 → ⊥) → leb 5 (cond b (cond c 0 7) 6) ≡ true
-    go true true h = absurd (h refl)
-    go true false h = refl
-    go false c h = refl
+    go : (a b c d e : Bool) → (_≡_ {A = ℕ} (cond a (cond b (cond c (cond d (cond e 0 16) 15) 7) 6) 5) 0 → ⊥)
+        → leb 5 (cond a (cond b (cond c (cond d (cond e 0 16) 15) 7) 6) 5) ≡ true
+    go true true true true true h = absurd (h refl)
+    go true true true true false h = refl
+    go true true true false e h = refl
+    go true true false d e h = refl
+    go true false c d e h = refl
+    go false b c d e h = refl
+
+-- ---- a line, judged in two steps
+
+-- a number among 5, 6 and 7 is the line's; where it is 0, what is behind decides
+refuses : (a b c : Bool) (behind : ℕ) → (_≡_ {A = ℕ} (cond a (cond b (cond c 0 7) 6) 5) 0 → ⊥)
+    → cond a (cond b (cond c behind 7) 6) 5 ≡ cond a (cond b (cond c 0 7) 6) 5
+refuses true true true behind h = absurd (h refl)
+refuses true true false behind h = refl
+refuses true false c behind h = refl
+refuses false b c behind h = refl
+
+passes : (a b c : Bool) (behind : ℕ) → _≡_ {A = ℕ} (cond a (cond b (cond c 0 7) 6) 5) 0 → cond a (cond b (cond c behind 7) 6) 5 ≡ behind
+passes a b c behind h = let p = all-passed ((a, 5) ∷ (b, 6) ∷ (c, 7) ∷ []) refl h in rw (p .0, p .1 .0, p .1 .1 .0)
+
+-- a line that is about no load names no sum, and has none
+no-load : (l : Line) (good : Bool) (sum : ℕ) → asksLoad l ≡ false → (numberBy (stagedChecks good sum l) ≡ 0) × (sumTold l sum ≡ 0)
+no-load Empty good sum h = (refl, refl)
+no-load Wrong good sum h = (refl, refl)
+no-load (Waits c) good sum h = (refl, refl)
+no-load LoadZero good sum h = (refl, refl)
+no-load (LoadAt a) good sum h = (refl, refl)
+no-load Ask good sum h = absurd (true≢false h)
+no-load (Commit a y n) good sum h = absurd (true≢false h)
+
+module _ (waits full good : Bool) (sum : ℕ) (l : Line) (n : ℕ) (is : n ≡ numberBy (ownChecks waits full l [])) where
+  pub judged-own : (n ≡ 0 → ⊥) → JudgedAs (record { number = n; sum = 0 }) (commandChecks waits full good sum l) l sum
+  judged-own h =
+      let r = refuses (not (isWrong l)) (not (usesStaging l && waits)) (not (isCommand l && full)) (numberBy (stagedChecks good sum l))
+      (λ z. h (is ∙ z)) in
+      let e : n ≡ numberBy (commandChecks waits full good sum l) = is ∙ sym r in
+      (e, rw (sym e, ne-eqb n 0 h))
+
+  module _ (z : n ≡ 0) where
+    behind : numberBy (commandChecks waits full good sum l) ≡ numberBy (stagedChecks good sum l)
+    behind = passes (not (isWrong l)) (not (usesStaging l && waits)) (not (isCommand l && full)) _ (sym is ∙ z)
+
+    pub judged-other : asksLoad l ≡ false → JudgedAs (record { number = n; sum = 0 }) (commandChecks waits full good sum l) l sum
+    judged-other a =
+        let q = no-load l good sum a in
+        let e : numberBy (commandChecks waits full good sum l) ≡ 0 = behind ∙ q .0 in
+        (z ∙ sym e, rw e (sym (q .1)))
+
+    pub judged-behind : (j : Judged) → JudgedAs j (stagedChecks good sum l) l sum → JudgedAs j (commandChecks waits full good sum l) l sum
+    judged-behind j q = rw behind q
+
+-- judged by what is equal to waits, full and the line
+pub judged-same : (j : Judged) (good : Bool) (sum : ℕ) {w w′ f f′ : Bool} {l l′ : Line} → w ≡ w′ → f ≡ f′ → l ≡ l′
+    → JudgedAs j (commandChecks w f good sum l) l sum → JudgedAs j (commandChecks w′ f′ good sum l′) l′ sum
+judged-same j good sum {w} {w′} {f} {f′} {l} {l′} ew ef el q =
+    subst (λ (x : Bool). JudgedAs j (commandChecks x f′ good sum l′) l′ sum) ew
+    (subst (λ (x : Bool). JudgedAs j (commandChecks w x good sum l′) l′ sum) ef
+    (subst (λ (x : Line). JudgedAs j (commandChecks w f good sum x) x sum) el q))
+
+-- a line about a load, by the bytes below the reach and their sum
+module _ (good : Bool) (sum : ℕ) (l : Line) (a : asksLoad l ≡ true) where
+  pub judged-bad : good ≡ false → JudgedAs (record { number = 15; sum = 0 }) (stagedChecks good sum l) l sum
+  judged-bad g = rw (a, g) (refl, refl)
+
+  pub judged-differs : good ≡ true → sumAgrees l sum ≡ false → JudgedAs (record { number = 16; sum = 0 }) (stagedChecks good sum l) l sum
+  judged-differs g d = rw (a, g, d) (refl, refl)
+
+  pub judged-right : good ≡ true → sumAgrees l sum ≡ true → (t : ℕ) → t ≡ sumTold l sum
+      → JudgedAs (record { number = 0; sum = t }) (stagedChecks good sum l) l sum
+  judged-right g d t e = rw (a, g, d) (refl, e)

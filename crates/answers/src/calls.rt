@@ -24,9 +24,14 @@ pub(crate) fn print_buffer(text: &mut [u8], at: &mut usize, number: u64, buffer:
     buffered::text::line_end(text, at);
 }
 
-pub fn print_line(text: &mut [u8], at: &mut usize, number: u8, echo: &[u8]) {
+// A number, a whole echo, and the sum that an ask returns.
+pub fn print_line(text: &mut [u8], at: &mut usize, number: u8, echo: &[u8], sum: u32) {
     buffered::text::bytes(text, at, b"line");
-    print_buffer(text, at, number as u64, echo);
+    buffered::text::number(text, at, number as u64);
+    buffered::text::byte(text, at, b' ');
+    buffered::text::hex(text, at, echo);
+    buffered::text::number(text, at, sum as u64);
+    buffered::text::line_end(text, at);
 }
 
 pub fn print_package(text: &mut [u8], at: &mut usize, number: u8, echo: &[u8]) {

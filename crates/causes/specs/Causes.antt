@@ -26,7 +26,7 @@ lineBytes = 4
 abbrev pub wrongLine : ℕ
 wrongLine = 5
 
--- "a load waits (load, load 0, loadat, package)"
+-- "a load waits (load, load 0, loadat, package)"; document 02, Point 4: "6 holds, for ask and commit too"
 abbrev pub loadWaits : ℕ
 loadWaits = 6
 
@@ -61,3 +61,11 @@ bodyFault = 13
 -- document 02, Point 1: "14 when i, or a listing packet's address, is none of these"
 abbrev pub notListed : ℕ
 notListed = 14
+
+-- document 02, Point 4: "15 when a staged byte is bad", below the reach
+abbrev pub badStaged : ℕ
+badStaged = 15
+
+-- document 02, Point 4: "16 when commit's sum differs from that of the bytes lent below the reach"
+abbrev pub sumDiffers : ℕ
+sumDiffers = 16

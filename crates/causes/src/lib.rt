@@ -47,6 +47,12 @@ pub const BODY_FAULT: u8 = 13;
 // A listing's i, or a listing packet's address, is none of the 250.
 pub const NOT_LISTED: u8 = 14;
 
+// A byte below the reach was last written by a package with a wrong sum.
+pub const BAD_STAGED: u8 = 15;
+
+// A commit's sum is not that of the bytes below the reach.
+pub const SUM_DIFFERS: u8 = 16;
+
 // One test of a call: its cause where it fails, and otherwise what the tests behind it say.
 pub fn unless(passes: bool, cause: u8, rest: u8) -> u8
     ensures { λ r. ⌜ r ≡ cond passes rest cause ⌝ }

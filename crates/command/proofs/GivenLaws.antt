@@ -1,5 +1,5 @@
 -- Each command in its ranges is given by some line: `commandOk` refuses no command that a line can give, and no line can
--- give one that it refuses (`waits-ok`). Assumes nothing.
+-- give one that it refuses (`waits-ok`, `commit-ok`). Assumes nothing.
 use mathlib.Core.Path.{_≡_, ap, _∙_}
 use mathlib.Core.Bool.{true, false}
 use mathlib.Core.List.{List, [], _∷_, _++_}
@@ -15,12 +15,14 @@ use Rattle.wire.proofs.Lists.{either}
 use Rattle.load.proofs.LoadLaws.{lawful-is}
 use Rattle.command.specs.Words.{same}
 use Rattle.command.specs.Grammar.{printable, bytesOk, lineWords, isDigit, digitValue, argumentOf, rightIf, look, mostOf}
-use Rattle.command.specs.Grammar.{withOne, withTwo, oneArgument, twoArguments, ofWords, lineOf, commandOk}
+use Rattle.command.specs.Grammar.{withOne, withThree, oneArgument, threeArguments, ofWords, lineOf, commandOk}
+use Rattle.command.specs.Asked.{leftWaiting}
+use Rattle.command.specs.declared.command.Line.{Line}
 use Rattle.command.specs.declared.command.Command.{Command}
 use Rattle.command.specs.declared.command.Command.the-variants.{Set, Load}
 use Rattle.command.specs.declared.command.Setting.{Setting}
 use Rattle.command.specs.declared.command.Setting.the-variants.{Limhi, Eonly, Toferror, Junk, Hv, Hvstep}
-use Rattle.command.specs.declared.command.Line.the-variants.{Waits}
+use Rattle.command.specs.declared.command.Line.the-variants.{Waits, Commit}
 use Rattle.command.specs.declared.argument.Argument.{Argument}
 use Rattle.command.specs.declared.argument.Argument.the-variants.{Value}
 
@@ -102,7 +104,7 @@ word Hvstep = "hvstep"
 
 abbrev lineFor : Command → List ℕ
 lineFor (Set k n) = text (word k) ++ 32 ∷ digits n
-lineFor (Load a y) = text "load" ++ 32 ∷ (digits a ++ 32 ∷ digits y)
+lineFor (Load a y) = text "commit" ++ 32 ∷ (digits a ++ 32 ∷ (digits y ++ 32 ∷ digits 0))
 
 -- no value of a setting has more than four digits
 most-small : (k : Setting) (n : ℕ) → n ≤ mostOf k → n < 65536
@@ -118,13 +120,13 @@ one-number : (k : List ℕ) (n reach : ℕ) → n < 65536 → ofWords (k ∷ lin
 unfolding ofWords oneArgument
 one-number k n reach h = rw (words-digits n h) (ap (λ (a : Argument). oneArgument k a reach) (argument-digits n h))
 
--- and two
-two-numbers : (k : List ℕ) (a y reach : ℕ) → a < 65536 → y < 65536
-    → ofWords (k ∷ lineWords (digits a ++ 32 ∷ digits y)) reach ≡ withTwo k a y reach
-unfolding ofWords twoArguments
-two-numbers k a y reach h g =
-    rw (words-digits-more a h (digits y), words-digits y g)
-    (λ i. twoArguments k (argument-digits a h i) (argument-digits y g i) reach)
+-- and three
+three-numbers : (k : List ℕ) (a y n reach : ℕ) → a < 65536 → y < 65536 → n < 65536
+    → ofWords (k ∷ lineWords (digits a ++ 32 ∷ (digits y ++ 32 ∷ digits n))) reach ≡ withThree k a y n reach
+unfolding ofWords threeArguments
+three-numbers k a y n reach h g f =
+    rw (words-digits-more a h (digits y ++ 32 ∷ digits n), words-digits-more y g (digits n), words-digits n f)
+    (λ i. threeArguments k (argument-digits a h i) (argument-digits y g i) (argument-digits n f i) reach)
 
 -- a setting's line, where its keyword gives it
 gives-set : (k : Setting) (n reach : ℕ) → n < 65536 → leb n (mostOf k) ≡ true → lineOf (lineFor (Set k n)) reach ≡ Waits (Set k n)
@@ -136,12 +138,14 @@ gives-set Junk n reach h g = one-number (text "junk") n reach h ∙ rw g
 gives-set Hv n reach h g = one-number (text "hv") n reach h ∙ rw g
 gives-set Hvstep n reach h g = one-number (text "hvstep") n reach h ∙ rw g
 
-gives : (c : Command) (reach : ℕ) → commandOk c reach ≡ true → lineOf (lineFor c) reach ≡ Waits c
-unfolding lineOf lineWords withTwo look same rightIf
-gives (Set k n) reach h = gives-set k n reach (most-small k n (leb-true n (mostOf k) h)) h
+gives : (c : Command) (reach : ℕ) → commandOk c reach ≡ true → leftWaiting (lineOf (lineFor c) reach) ≡ c ∷ []
+unfolding lineOf lineWords withThree look same rightIf
+gives (Set k n) reach h = ap leftWaiting (gives-set k n reach (most-small k n (leb-true n (mostOf k) h)) h)
 gives (Load a y) reach h =
     let l = lawful-is a y reach h in
-    two-numbers (text "load") a y reach (omega arith) (omega arith) ∙ rw h
+    let e : lineOf (lineFor (Load a y)) reach ≡ Commit a y 0 =
+    three-numbers (text "commit") a y 0 reach (omega arith) (omega arith) (omega arith) ∙ rw h in
+    ap leftWaiting e
 
 bytes-set : (k : Setting) (n : ℕ) → n < 65536 → bytesOk (lineFor (Set k n)) ≡ true
 bytes-set Limhi n h = all-digits n h []
@@ -155,9 +159,9 @@ line-bytes : (c : Command) (reach : ℕ) → commandOk c reach ≡ true → byte
 line-bytes (Set k n) reach h = bytes-set k n (most-small k n (leb-true n (mostOf k) h))
 line-bytes (Load a y) reach h =
     let l = lawful-is a y reach h in
-    all-digits a (omega arith) (32 ∷ digits y) ∙ all-digits y (omega arith) []
+    all-digits a (omega arith) (32 ∷ (digits y ++ 32 ∷ digits 0)) ∙ all-digits y (omega arith) (32 ∷ digits 0)
 
--- a command that is ok is what some line gives
+-- a command that is ok is what some line leaves waiting
 pub ok-given : (c : Command) (reach : ℕ) → commandOk c reach ≡ true
-    → (line : List ℕ) × ((bytesOk line ≡ true) × (lineOf line reach ≡ Waits c))
+    → (line : List ℕ) × ((bytesOk line ≡ true) × (leftWaiting (lineOf line reach) ≡ c ∷ []))
 ok-given c reach h = (lineFor c, (line-bytes c reach h, gives c reach h))

@@ -14,8 +14,9 @@ use borrow.Author.Tests.{eq-eqb, ne-eqb, eqb-true, ltb-true, ltb-false}
 use Rattle.wire.specs.Lists.{all}
 use Rattle.wire.proofs.Lists.{either}
 use Rattle.command.specs.Words.{same}
-use Rattle.command.specs.Grammar.{lineWords, onto, isDigit, argumentOf, oneArgument, twoArguments, ofWords, lineOf}
-use Rattle.command.specs.Parsing.{wordLength}
+use Rattle.command.specs.Grammar.{lineWords, onto, isDigit, argumentOf, oneArgument, twoArguments, threeArguments}
+use Rattle.command.specs.Grammar.{ofWords, lineOf}
+use Rattle.command.specs.Parsing.{wordLength, moreWords}
 use Rattle.command.specs.declared.command.Line.the-variants.{Wrong}
 use Rattle.command.specs.declared.argument.Argument.{Argument}
 use Rattle.command.specs.declared.argument.Argument.the-variants.{Value, Malformed}
@@ -98,31 +99,52 @@ spaced-argument w h = rw (and-false _ (spaced w h))
 
 -- ---- lines of more than one argument
 
-more-words : (k a c : List ℕ) (w : List ℕ) (reach : ℕ) → ofWords (k ∷ a ∷ c ∷ lineWords w) reach ≡ Wrong
-unfolding ofWords lineWords
-more-words k a c [] reach = refl
-more-words k a c (b ∷ bs) reach =
-    ⊎-elim (λ e. rw e refl) (λ e. rw e (from (lineWords bs))) (either (eqb b 32))
+pub more-is : (k a : List ℕ) (ws : List (List ℕ)) (reach : ℕ) → ofWords (k ∷ a ∷ ws) reach ≡ moreWords k (argumentOf a) ws reach
+unfolding ofWords moreWords
+more-is k a [] reach = refl
+more-is k a (b ∷ []) reach = refl
+more-is k a (b ∷ c ∷ []) reach = refl
+more-is k a (b ∷ c ∷ d ∷ ws) reach = refl
+
+too-many : (k : List ℕ) (a : Argument) (b c w : List ℕ) (reach : ℕ) → moreWords k a (b ∷ c ∷ lineWords w) reach ≡ Wrong
+unfolding moreWords lineWords
+too-many k a b c [] reach = refl
+too-many k a b c (x ∷ xs) reach =
+    ⊎-elim (λ e. rw e refl) (λ e. rw e (from (lineWords xs))) (either (eqb x 32))
   where
-    from : (ws : List (List ℕ)) → ofWords (k ∷ a ∷ c ∷ onto b ws) reach ≡ Wrong
+    from : (ws : List (List ℕ)) → moreWords k a (b ∷ c ∷ onto x ws) reach ≡ Wrong
     from [] = refl
     from (w ∷ ws) = refl
 
-malformed : (k : List ℕ) (n : Argument) (reach : ℕ) → twoArguments k n Malformed reach ≡ Wrong
-unfolding twoArguments
-malformed k Malformed reach = refl
-malformed k (Value n) reach = refl
+malformed : (k : List ℕ) (n m : Argument) (reach : ℕ) → threeArguments k n m Malformed reach ≡ Wrong
+unfolding threeArguments
+malformed k Malformed m reach = refl
+malformed k (Value n) Malformed reach = refl
+malformed k (Value n) (Value m) reach = refl
 
--- what stands behind the second space is the second argument, or the line is wrong
-pub of-words-two : (k a w : List ℕ) (reach : ℕ) → ofWords (k ∷ a ∷ lineWords w) reach ≡ twoArguments k (argumentOf a) (argumentOf w) reach
-unfolding ofWords
-of-words-two k a w reach =
+-- what stands behind the third space is the third argument, or the line is wrong
+more-three : (k : List ℕ) (a : Argument) (b w : List ℕ) (reach : ℕ)
+    → moreWords k a (b ∷ lineWords w) reach ≡ threeArguments k a (argumentOf b) (argumentOf w) reach
+unfolding moreWords
+more-three k a b w reach =
     ⊎-elim
     (λ e.
     let h : wordLength w < length w = ltb-true _ _ e in
-    rw (words-more w h, spaced-argument w h) (more-words k a _ _ reach ∙ sym (malformed k (argumentOf a) reach)))
+    rw (words-more w h, spaced-argument w h) (too-many k a b _ _ reach ∙ sym (malformed k a (argumentOf b) reach)))
     (λ e. rw (words-one w (ltb-false _ _ e)))
     (either (ltb (wordLength w) (length w)))
+
+-- the words behind a first argument, by their first space
+module _ (k : List ℕ) (a : Argument) (rest : List ℕ) (reach : ℕ) where
+  pub more-one : length rest ≤ wordLength rest → moreWords k a (lineWords rest) reach ≡ twoArguments k a (argumentOf rest) reach
+  unfolding moreWords
+  more-one q = rw (words-one rest q)
+
+  pub more-two : (n : ℕ) (last : List ℕ) → n ≡ wordLength rest → last ≡ drop (n + 1) rest → n < length rest
+      → moreWords k a (lineWords rest) reach ≡ threeArguments k a (argumentOf (take n rest)) (argumentOf last) reach
+  more-two n last e d q =
+      let m : ℕ = wordLength rest in
+      rw (words-more rest (omega arith), d, e, add-one) (more-three k a (take m rest) (drop (suc m) rest) reach)
 
 -- ---- a line by its first spaces
 
@@ -145,11 +167,11 @@ module _ (line : List ℕ) (reach k : ℕ) (h : length line ≡ 0 → ⊥) (e : 
     line-one q = rw (ne-eqb _ _ h) (rw (words-at, words-one rest q))
 
     -- more
-    pub line-two : (m : ℕ) (last : List ℕ) → m ≡ wordLength rest → last ≡ drop (m + 1) rest → m < length rest
-        → lineOf line reach ≡ twoArguments (take k line) (argumentOf (take m rest)) (argumentOf last) reach
+    pub line-more : (m : ℕ) (last : List ℕ) → m ≡ wordLength rest → last ≡ drop (m + 1) rest → m < length rest
+        → lineOf line reach ≡ moreWords (take k line) (argumentOf (take m rest)) (lineWords last) reach
     unfolding lineOf
-    line-two m last em dm q =
+    line-more m last em dm q =
         let n : ℕ = wordLength rest in
         rw (ne-eqb _ _ h)
         (rw (words-at, words-more rest (omega arith), dm, em, add-one)
-        (of-words-two (take k line) (take n rest) (drop (suc n) rest) reach))
+        (more-is (take k line) (take n rest) (lineWords (drop (suc n) rest)) reach))

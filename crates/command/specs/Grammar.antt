@@ -1,4 +1,4 @@
--- Command lines (document 01, "Commands and loads"). Assumes nothing.
+-- Command lines (document 01, "Commands and loads"; document 02, Point 4). Assumes nothing.
 use Prim.Native.Nat.{ℕ, _+_, _-_, _*_}
 use Prim.Native.Char.{code}
 use Prim.Native.String.{String}
@@ -15,7 +15,7 @@ use Rattle.command.specs.declared.command.Command.the-variants.{Set, Loa
 use Rattle.command.specs.declared.command.Setting.{Setting}
 use Rattle.command.specs.declared.command.Setting.the-variants.{Limhi, Eonly, Toferror, Junk, Hv, Hvstep}
 use Rattle.command.specs.declared.command.Line.{Line}
-use Rattle.command.specs.declared.command.Line.the-variants.{Empty, Wrong, Waits, LoadZero, LoadAt}
+use Rattle.command.specs.declared.command.Line.the-variants.{Empty, Wrong, Waits, LoadZero, LoadAt, Ask, Commit}
 use Rattle.command.specs.declared.argument.Argument.{Argument}
 use Rattle.command.specs.declared.argument.Argument.the-variants.{Value, Malformed}
 
@@ -107,9 +107,14 @@ keywords n reach =
 unfoldable pub withOne : List ℕ → ℕ → ℕ → Line
 withOne k n reach = look k (keywords n reach)
 
--- the one that takes two: "load a y .. needs reach ≥ 1 and all words in 7000 to C202, judged when the line comes"
+-- the one that takes two: "The line "ask a y" checks as load did": it "needs reach ≥ 1 and all words in 7000 to C202, judged when the
+-- line comes". "Two-argument load disappears"
 unfoldable pub withTwo : List ℕ → ℕ → ℕ → ℕ → Line
-withTwo k a y reach = look k (("load", rightIf (loadLawful a y reach) (Waits (Load a y))) ∷ [])
+withTwo k a y reach = look k (("ask", rightIf (loadLawful a y reach) Ask) ∷ [])
+
+-- and three: "The line "commit a y sum" is checked likewise"
+unfoldable pub withThree : List ℕ → ℕ → ℕ → ℕ → ℕ → Line
+withThree k a y sum reach = look k (("commit", rightIf (loadLawful a y reach) (Commit a y sum)) ∷ [])
 
 -- ---- lines
 
@@ -124,19 +129,28 @@ twoArguments k Malformed b reach = Wrong
 twoArguments k (Value n) Malformed reach = Wrong
 twoArguments k (Value n) (Value m) reach = withTwo k n m reach
 
+-- and with three
+unfoldable pub threeArguments : List ℕ → Argument → Argument → Argument → ℕ → Line
+threeArguments k Malformed b c reach = Wrong
+threeArguments k (Value n) Malformed c reach = Wrong
+threeArguments k (Value n) (Value m) Malformed reach = Wrong
+threeArguments k (Value n) (Value m) (Value l) reach = withThree k n m l reach
+
 -- "a keyword, then arguments .., one space before each": the first word is the keyword, the others the arguments
 unfoldable pub ofWords : List (List ℕ) → ℕ → Line
 ofWords [] reach = Wrong
 ofWords (k ∷ []) reach = Wrong
 ofWords (k ∷ a ∷ []) reach = oneArgument k (argumentOf a) reach
 ofWords (k ∷ a ∷ b ∷ []) reach = twoArguments k (argumentOf a) (argumentOf b) reach
-ofWords (k ∷ a ∷ b ∷ c ∷ ws) reach = Wrong
+ofWords (k ∷ a ∷ b ∷ c ∷ []) reach = threeArguments k (argumentOf a) (argumentOf b) (argumentOf c) reach
+ofWords (k ∷ a ∷ b ∷ c ∷ d ∷ ws) reach = Wrong
 
 -- what a line is, at this reach: "Empty line: .. it answers 0 and is no command"
 unfoldable pub lineOf : List ℕ → ℕ → Line
 lineOf line reach = cond (eqb (length line) 0) Empty (ofWords (lineWords line) reach)
 
--- whether some line gives this command at this reach ("a waiting command that no line could give" is cause 1)
+-- whether some line gives this command at this reach ("a waiting command that no line could give" is cause 1): "For 1, a waiting
+-- commit is judged by a, y and reach alone, as load was"
 abbrev pub commandOk : Command → (reach : ℕ) → Bool
 commandOk (Set k n) reach = leb n (mostOf k)
 commandOk (Load a y) reach = loadLawful a y reach

@@ -1,7 +1,7 @@
 // What a line asks for.
 ghost use mathlib.Core.Path.{_≡_};
 ghost use Rattle.command.specs.Grammar.{mostOf, commandOk};
-ghost use Rattle.command.specs.Asked.{isLoad, isWrong, isCommand, usesStaging};
+ghost use Rattle.command.specs.Asked.{isLoad, isWrong, isCommand, isAsk, asksLoad, usesStaging, sumAgrees};
 
 // The settings that a command changes.
 pub enum Setting {
@@ -27,9 +27,13 @@ pub enum Line {
     // An unknown keyword or a wrong argument.
     Wrong,
     Waits(Command),
-    // The two commands that are carried out when accepted.
+    // The commands that are carried out when accepted.
     LoadZero,
     LoadAt(u32),
+    // Asks whether a load would be accepted, and for the sum of its bytes.
+    Ask,
+    // The load's address and packing, and the sum that its bytes must have.
+    Commit(u32, u8, u32),
 }
 
 // The largest value of a setting; the least is 0. That of a flag is 1.
@@ -76,6 +80,8 @@ pub fn is_wrong(l: Line) -> bool
         Line::Waits(_) => false,
         Line::LoadZero => false,
         Line::LoadAt(_) => false,
+        Line::Ask => false,
+        Line::Commit(_, _, _) => false,
     }
 }
 
@@ -89,6 +95,8 @@ pub fn is_command(l: Line) -> bool
         Line::Waits(_) => true,
         Line::LoadZero => true,
         Line::LoadAt(_) => true,
+        Line::Ask => true,
+        Line::Commit(_, _, _) => true,
     }
 }
 
@@ -102,5 +110,52 @@ pub fn uses_staging(l: Line) -> bool
         Line::Waits(c) => is_load(c),
         Line::LoadZero => true,
         Line::LoadAt(_) => true,
+        Line::Ask => true,
+        Line::Commit(_, _, _) => true,
+    }
+}
+
+// Whether a line asks for the sum of the staged bytes.
+pub fn is_ask(l: Line) -> bool
+    ensures { λ r. ⌜ r ≡ isAsk l ⌝ }
+{
+    match l {
+        Line::Empty => false,
+        Line::Wrong => false,
+        Line::Waits(_) => false,
+        Line::LoadZero => false,
+        Line::LoadAt(_) => false,
+        Line::Ask => true,
+        Line::Commit(_, _, _) => false,
+    }
+}
+
+// Whether a line is about a load of the staged bytes, so that none of them may be bad.
+pub fn asks_load(l: Line) -> bool
+    ensures { λ r. ⌜ r ≡ asksLoad l ⌝ }
+{
+    match l {
+        Line::Empty => false,
+        Line::Wrong => false,
+        Line::Waits(_) => false,
+        Line::LoadZero => false,
+        Line::LoadAt(_) => false,
+        Line::Ask => true,
+        Line::Commit(_, _, _) => true,
+    }
+}
+
+// Whether a line names no sum, or this one.
+pub fn sum_agrees(l: Line, sum: u32) -> bool
+    ensures { λ r. ⌜ r ≡ sumAgrees l sum ⌝ }
+{
+    match l {
+        Line::Empty => true,
+        Line::Wrong => true,
+        Line::Waits(_) => true,
+        Line::LoadZero => true,
+        Line::LoadAt(_) => true,
+        Line::Ask => true,
+        Line::Commit(_, _, n) => n == sum,
     }
 }

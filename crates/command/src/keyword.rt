@@ -2,7 +2,8 @@
 ghost use mathlib.Core.Path.{_≡_};
 ghost use mathlib.Core.Bool.{cond};
 ghost use Rattle.command.specs.Words.{same};
-ghost use Rattle.command.specs.Grammar.{rightIf, setLine, withOne, withTwo, oneArgument, twoArguments};
+ghost use Rattle.command.specs.Grammar.{rightIf, setLine, withOne, withTwo, withThree};
+ghost use Rattle.command.specs.Grammar.{oneArgument, twoArguments, threeArguments};
 ghost use Rattle.load.specs.Load.{loadLawful};
 use crate::argument::Argument;
 use crate::command::Command;
@@ -30,17 +31,23 @@ fn set_line(k: Setting, n: u32) -> Line
     }
 }
 
-fn load_line(a: u32, y: u32, reach: u32) -> Line
-    ensures { λ r. ⌜ r ≡ rightIf (loadLawful a y reach) (Line.Waits (Command.Load a y)) ⌝ }
+fn ask_line(a: u32, y: u32, reach: u32) -> Line
+    ensures { λ r. ⌜ r ≡ rightIf (loadLawful a y reach) Line.Ask ⌝ }
+{
+    if y > TWO_BYTES as u32 {
+        return Line::Wrong;
+    }
+    right_if(load_lawful(a, y as u8, reach), Line::Ask)
+}
+
+fn commit_line(a: u32, y: u32, sum: u32, reach: u32) -> Line
+    ensures { λ r. ⌜ r ≡ rightIf (loadLawful a y reach) (Line.Commit a y sum) ⌝ }
 {
     if y > TWO_BYTES as u32 {
         return Line::Wrong;
     }
     let how = y as u8;
-    right_if(
-        load_lawful(a, how, reach),
-        Line::Waits(Command::Load(a, how)),
-    )
+    right_if(load_lawful(a, how, reach), Line::Commit(a, how, sum))
 }
 
 // A row of a table of keywords: its line where the keyword is the row's word, and otherwise what the rows behind it say.
@@ -69,7 +76,19 @@ fn with_one(keyword: &[u8], n: u32, reach: u32) -> Line
 fn with_two(keyword: &[u8], a: u32, y: u32, reach: u32) -> Line
     ensures { λ r. ⌜ r ≡ withTwo (now (keyword .entry)) a y reach ⌝ }
 {
-    row(keyword, b"load", load_line(a, y, reach), Line::Wrong)
+    row(keyword, b"ask", ask_line(a, y, reach), Line::Wrong)
+}
+
+// A keyword with three.
+fn with_three(keyword: &[u8], a: u32, y: u32, sum: u32, reach: u32) -> Line
+    ensures { λ r. ⌜ r ≡ withThree (now (keyword .entry)) a y sum reach ⌝ }
+{
+    row(
+        keyword,
+        b"commit",
+        commit_line(a, y, sum, reach),
+        Line::Wrong,
+    )
 }
 
 pub fn one_argument(keyword: &[u8], n: Argument, reach: u32) -> Line
@@ -89,6 +108,28 @@ pub fn two_arguments(keyword: &[u8], n: Argument, m: Argument, reach: u32) -> Li
             Argument::Value(y) => with_two(keyword, x, y, reach),
             Argument::Malformed => Line::Wrong,
         },
+        Argument::Malformed => Line::Wrong,
+    }
+}
+
+// The first argument is a number, the others may be none.
+fn after_first(keyword: &[u8], a: u32, m: Argument, l: Argument, reach: u32) -> Line
+    ensures { λ r. ⌜ r ≡ threeArguments (now (keyword .entry)) (Argument.Value a) m l reach ⌝ }
+{
+    match m {
+        Argument::Value(y) => match l {
+            Argument::Value(sum) => with_three(keyword, a, y, sum, reach),
+            Argument::Malformed => Line::Wrong,
+        },
+        Argument::Malformed => Line::Wrong,
+    }
+}
+
+pub fn three_arguments(keyword: &[u8], n: Argument, m: Argument, l: Argument, reach: u32) -> Line
+    ensures { λ r. ⌜ r ≡ threeArguments (now (keyword .entry)) n m l reach ⌝ }
+{
+    match n {
+        Argument::Value(a) => after_first(keyword, a, m, l, reach),
         Argument::Malformed => Line::Wrong,
     }
 }

@@ -1,10 +1,13 @@
 // Command lines.
 ghost use mathlib.Core.Path.{_≡_};
 ghost use Rattle.wire.specs.Lists.{all};
-ghost use Rattle.command.specs.Grammar.{printable, bytesOk, lineOf};
+ghost use Rattle.command.specs.Grammar.{printable, bytesOk, lineWords, lineOf};
+ghost use Rattle.command.specs.Parsing.{moreWords};
+use crate::argument::Argument;
 use crate::argument::argument_of;
 use crate::command::Line;
 use crate::keyword::one_argument;
+use crate::keyword::three_arguments;
 use crate::keyword::two_arguments;
 use crate::words::word_length;
 
@@ -39,6 +42,19 @@ pub fn bytes_ok(line: &[u8]) -> bool
     all_printable(line)
 }
 
+// What a keyword with two arguments or more is: a third word that has a space behind it is no argument.
+fn parse_more(keyword: &[u8], first: Argument, rest: &[u8], reach: u32) -> Line
+    ensures { λ r. ⌜ r ≡ moreWords (now (keyword .entry)) first (lineWords (now (rest .entry))) reach ⌝ }
+{
+    let n = word_length(rest);
+    if rest.len() <= n {
+        return two_arguments(keyword, first, argument_of(rest), reach);
+    }
+    let second = argument_of(&rest[..n]);
+    let third = argument_of(&rest[n + 1..]);
+    three_arguments(keyword, first, second, third, reach)
+}
+
 // What the line is, at this reach.
 pub fn parse(line: &[u8], reach: u32) -> Line
     ensures { λ r. ⌜ r ≡ lineOf (now (line .entry)) reach ⌝ }
@@ -56,7 +72,5 @@ pub fn parse(line: &[u8], reach: u32) -> Line
     if rest.len() <= m {
         return one_argument(keyword, argument_of(rest), reach);
     }
-    let first = argument_of(&rest[..m]);
-    let second = argument_of(&rest[m + 1..]);
-    two_arguments(keyword, first, second, reach)
+    parse_more(keyword, argument_of(&rest[..m]), &rest[m + 1..], reach)
 }

@@ -69,6 +69,12 @@ pub fn line(l: Line) {
         Line::Waits(c) => waiting(c),
         Line::LoadZero => text(b"load 0"),
         Line::LoadAt(a) => labelled(b"loadat ", a),
+        Line::Ask => text(b"ask"),
+        Line::Commit(a, y, sum) => {
+            labelled(b"commit ", a);
+            labelled(b" ", y as u32);
+            labelled(b" ", sum);
+        }
     }
 }
 

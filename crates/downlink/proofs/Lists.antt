@@ -56,8 +56,8 @@ listing-passed t i time tables out z =
 call-received : (t : Tally) → Inv t → t .settings .hvstep < 256 → (c : Call) → LawfulCall (view t) c → TallyReceived t c (reply (view t) c)
 call-received t v h (event tables slots e) l = tt
 call-received t v h (reading counts) l = tt
-call-received t v h (line bytes echo) l = tt
-call-received t v h (load bytes staging echo) l = tt
+call-received t v h (line bytes g m echo) l = tt
+call-received t v h (load bytes g m echo) l = tt
 call-received t v h (close time tables staging slots out) l = λ ht z.
     let c = close time tables staging slots out in
     let o = out-is t time tables staging slots out (sym (number-is t v c) ∙ z) in
@@ -81,10 +81,10 @@ each-received (c ∷ cs) t v h l = (
 )
 
 pub list-received : ListReceived
-list-received tables staging cs l =
-    let e = fresh-view tables staging in
-    subst (λ w. EachReceived (freshTally tables staging) w cs) (sym e)
-    (each-received cs (freshTally tables staging) (fresh-inv tables staging) (omega arith) (subst (λ w. Lawful w cs) e l))
+list-received tables staging marks cs l =
+    let e = fresh-view tables staging marks in
+    subst (λ w. EachReceived (freshTally tables staging marks) w cs) (sym e)
+    (each-received cs (freshTally tables staging marks) (fresh-inv tables staging marks) (omega arith) (subst (λ w. Lawful w cs) e l))
 
 -- ---- the next close
 
@@ -94,10 +94,10 @@ fits-after [] t h = h
 fits-after (c ∷ cs) t h = fits-after cs (tnext t c) (next-fits t c h)
 
 pub next-received : NextReceived
-next-received tables staging lt ls cs l time out ht lo =
-    let t = freshTally tables staging in
-    let v = inv-after cs t (fresh-inv tables staging) (subst (λ w. Lawful w cs) (fresh-view tables staging) l) in
-    let q = close-now tables staging lt ls cs l time out lo in
+next-received tables staging marks lt ls cs l time out ht lo =
+    let t = freshTally tables staging marks in
+    let v = inv-after cs t (fresh-inv tables staging marks) (subst (λ w. Lawful w cs) (fresh-view tables staging marks) l) in
+    let q = close-now tables staging marks lt ls cs l time out lo in
     let d = tally-received (tafter t cs) v (fits-after cs t (omega arith)) time ht in
     record {
       carried = ap numberOf q;

@@ -57,8 +57,8 @@ commands-fit s (w ∷ ws) h = commands-fit (settingsAfter s (w .command)) ws (co
 call-fits : (t : Tally) (c : Call) → StepFits (t .settings) → StepFits (afterCall t c .settings)
 call-fits t (event tables slots e) h = h
 call-fits t (reading counts) h = h
-call-fits t (line bytes echo) h = h
-call-fits t (load bytes staging echo) h = h
+call-fits t (line bytes g m echo) h = h
+call-fits t (load bytes g m echo) h = h
 call-fits t (close time tables staging slots out) h = commands-fit (t .settings) (t .told .waiting) h
 call-fits t (listing i time tables out) h = h
 

@@ -25,7 +25,8 @@ use Rattle.state.specs.declared.State.{State}
 use Rattle.output.specs.Output.{samplePackets, outBytes, packetsOf}
 use Rattle.processor.specs.Close.{closeNumber, closeDone}
 use Rattle.processor.specs.Listing.{listingNumber, listingDone}
-use Rattle.tally.specs.Calls.{own, Call, event, reading, line, load, close, listing, Reply, answered, echoed, closed, listed, numberOf}
+use Rattle.tally.specs.Calls.{own, Call, event, reading, line, load, close, listing, Reply, answered, lined, echoed, closed, listed}
+use Rattle.tally.specs.Calls.{numberOf}
 use Rattle.tally.specs.Calls.{World, freshWorld, next, reply, after, Lawful}
 use Rattle.tally.specs.Tally.{Tally, freshTally, countsOf, totalsOf, frameOf, ownSlots, tnext, tafter}
 
@@ -155,6 +156,7 @@ endedFor t time = record {
 -- the output of a close or a listing; no other call has one
 abbrev pub outOf : Reply → List ℕ
 outOf (answered n) = []
+outOf (lined n echo sum) = []
 outOf (echoed n echo) = []
 outOf (closed n taken counts filled out) = out
 outOf (listed n out) = out
@@ -164,8 +166,8 @@ outOf (listed n out) = out
 abbrev pub TallyReceived : Tally → Call → Reply → Type 0
 TallyReceived t (event tables slots e) r = Unit {0}
 TallyReceived t (reading counts) r = Unit {0}
-TallyReceived t (line bytes echo) r = Unit {0}
-TallyReceived t (load bytes staging echo) r = Unit {0}
+TallyReceived t (line bytes g m echo) r = Unit {0}
+TallyReceived t (load bytes g m echo) r = Unit {0}
 TallyReceived t (close time tables staging slots out) r =
     time < 4294967296 → numberOf r ≡ carriedOut → Received (endedFor t time) (outOf r)
 TallyReceived t (listing i time tables out) r = numberOf r ≡ carriedOut → Listed (t .tables) i (outOf r)
@@ -175,11 +177,11 @@ abbrev pub EachReceived : Tally → World → List Call → Type 0
 EachReceived t w [] = Unit {0}
 EachReceived t w (c ∷ cs) = TallyReceived t c (reply w c) × EachReceived (tnext t c) (next w c) cs
 
--- for every initial tables and staging, and every lawful list of calls
+-- for every initial tables, staging and marks, and every lawful list of calls
 abbrev pub ListReceived : Type 0
 ListReceived =
-    (tables staging : List ℕ) (cs : List Call) → Lawful (freshWorld tables staging) cs
-    → EachReceived (freshTally tables staging) (freshWorld tables staging) cs
+    (tables staging marks : List ℕ) (cs : List Call) → Lawful (freshWorld tables staging marks) cs
+    → EachReceived (freshTally tables staging marks) (freshWorld tables staging marks) cs
 
 -- a close after any such list, where tables, staging and output have their lengths: carried out, and received
 pub record CarriedDown (t : Tally) (time : ℕ) (r : Reply) : Type 0 where
@@ -188,7 +190,8 @@ pub record CarriedDown (t : Tally) (time : ℕ) (r : Reply) : Type 0 where
 
 abbrev pub NextReceived : Type 0
 NextReceived =
-    (tables staging : List ℕ) → length tables ≡ tableBytes → length staging ≡ stagingBytes
-    → (cs : List Call) → Lawful (freshWorld tables staging) cs
+    (tables staging marks : List ℕ) → length tables ≡ tableBytes → length staging ≡ stagingBytes
+    → (cs : List Call) → Lawful (freshWorld tables staging marks) cs
     → (time : ℕ) (out : List ℕ) → time < 4294967296 → length out ≡ outBytes
-    → CarriedDown (tafter (freshTally tables staging) cs) time (reply (after (freshWorld tables staging) cs) (close time own own own out))
+    → CarriedDown (tafter (freshTally tables staging marks) cs) time
+    (reply (after (freshWorld tables staging marks) cs) (close time own own own out))

@@ -8,6 +8,8 @@ pub const TABLE_BYTES: usize = 62985;
 
 pub const STAGING_BYTES: usize = 62985;
 
+pub const MARKS_BYTES: usize = 7874;
+
 pub const SLOTS: usize = 704;
 
 pub const ECHO_BYTES: usize = 128;
@@ -38,13 +40,19 @@ fn reading(s: State) -> u8 {
     answer.number
 }
 
-pub fn line(s: State, line: &[u8], echo: &mut [u8]) -> u8 {
-    let answer = processor::line::line(s, line, echo);
+pub fn line(s: State, line: &[u8], staging: &[u8], marks: &[u8], echo: &mut [u8]) -> u8 {
+    let answer = processor::line::line(s, line, staging, marks, echo);
     answer.number
 }
 
-pub fn package(s: State, bytes: &[u8], staging: &mut [u8], echo: &mut [u8]) -> u8 {
-    let answer = processor::load_package::package(s, bytes, staging, echo);
+pub fn package(
+    s: State,
+    bytes: &[u8],
+    staging: &mut [u8],
+    marks: &mut [u8],
+    echo: &mut [u8],
+) -> u8 {
+    let answer = processor::load_package::package(s, bytes, staging, marks, echo);
     answer.number
 }
 
@@ -65,14 +73,17 @@ fn event_lent(s: State) -> u8 {
 }
 
 fn line_lent(s: State) -> u8 {
+    let staging = [0u8; STAGING_BYTES];
+    let marks = [0u8; MARKS_BYTES];
     let mut echo = [0u8; ECHO_BYTES];
-    line(s, b"hv 1", &mut echo)
+    line(s, b"hv 1", &staging, &marks, &mut echo)
 }
 
 fn package_lent(s: State) -> u8 {
     let mut staging = [0u8; STAGING_BYTES];
+    let mut marks = [0u8; MARKS_BYTES];
     let mut echo = [0u8; ECHO_BYTES];
-    package(s, &[0, 3, 1, 0, 1], &mut staging, &mut echo)
+    package(s, &[0, 3, 1, 0, 1], &mut staging, &mut marks, &mut echo)
 }
 
 fn close_lent(s: State) -> u8 {

@@ -3,6 +3,7 @@
 use crate::calls;
 use crate::calls::CHANNEL;
 use crate::calls::ECHO_BYTES;
+use crate::calls::MARKS_BYTES;
 use crate::calls::OUT_BYTES;
 use crate::calls::SLOTS;
 use crate::calls::STAGING_BYTES;
@@ -23,22 +24,68 @@ fn event_slots(name: &[u8], slots: &mut [u32], t: u16) {
 }
 
 fn line(name: &[u8], bytes: &[u8], echo: &mut [u8]) {
-    one(name, calls::line(state::fresh(), bytes, echo));
+    let staging = [0u8; STAGING_BYTES];
+    let marks = [0u8; MARKS_BYTES];
+    one(
+        name,
+        calls::line(state::fresh(), bytes, &staging, &marks, echo),
+    );
 }
 
-fn package_staging(name: &[u8], bytes: &[u8], staging: &mut [u8]) {
+fn line_staging(name: &[u8], staging: &[u8]) {
+    let marks = [0u8; MARKS_BYTES];
     let mut echo = [0u8; ECHO_BYTES];
     one(
         name,
-        calls::package(state::fresh(), bytes, staging, &mut echo),
+        calls::line(state::fresh(), b"hv 1", staging, &marks, &mut echo),
+    );
+}
+
+fn line_marks(name: &[u8], marks: &[u8]) {
+    let staging = [0u8; STAGING_BYTES];
+    let mut echo = [0u8; ECHO_BYTES];
+    one(
+        name,
+        calls::line(state::fresh(), b"hv 1", &staging, marks, &mut echo),
+    );
+}
+
+fn package_marks(name: &[u8], marks: &mut [u8]) {
+    let mut staging = [0u8; STAGING_BYTES];
+    let mut echo = [0u8; ECHO_BYTES];
+    one(
+        name,
+        calls::package(
+            state::fresh(),
+            &[0, 2, 0, 0],
+            &mut staging,
+            marks,
+            &mut echo,
+        ),
+    );
+}
+
+fn package_staging(name: &[u8], bytes: &[u8], staging: &mut [u8]) {
+    let mut marks = [0u8; MARKS_BYTES];
+    let mut echo = [0u8; ECHO_BYTES];
+    one(
+        name,
+        calls::package(state::fresh(), bytes, staging, &mut marks, &mut echo),
     );
 }
 
 fn package_echo(name: &[u8], echo: &mut [u8]) {
     let mut staging = [0u8; STAGING_BYTES];
+    let mut marks = [0u8; MARKS_BYTES];
     one(
         name,
-        calls::package(state::fresh(), &[0, 2, 0, 0], &mut staging, echo),
+        calls::package(
+            state::fresh(),
+            &[0, 2, 0, 0],
+            &mut staging,
+            &mut marks,
+            echo,
+        ),
     );
 }
 
@@ -139,6 +186,24 @@ fn output_cases() {
     close_output(b"close-output-3537", &mut long);
 }
 
+fn line_staging_cases() {
+    line_staging(b"line-staging-0", &[0u8; 0]);
+    line_staging(b"line-staging-62984", &[0u8; 62984]);
+    line_staging(b"line-staging-62986", &[0u8; 62986]);
+}
+
+fn mark_cases() {
+    let mut none = [0u8; 0];
+    let mut short = [0u8; 7873];
+    let mut long = [0u8; 7875];
+    line_marks(b"line-marks-0", &none);
+    line_marks(b"line-marks-7873", &short);
+    line_marks(b"line-marks-7875", &long);
+    package_marks(b"package-marks-0", &mut none);
+    package_marks(b"package-marks-7873", &mut short);
+    package_marks(b"package-marks-7875", &mut long);
+}
+
 // The lowest number that applies is given: 1 before any other.
 fn lowest_cases() {
     let mut slots = [0u32; 703];
@@ -169,6 +234,8 @@ pub fn run() {
     staging_cases();
     echo_cases();
     output_cases();
+    line_staging_cases();
+    mark_cases();
     crate::listings::lengths();
     lowest_cases();
     right_cases();

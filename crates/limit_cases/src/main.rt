@@ -1,5 +1,6 @@
-// Gives the six calls states at each limit and one beyond, buffers of the right length and one off, and slots of odd
-// boxes, and prints the number that each call answers. The expected output is what the second implementation prints.
+// Gives the six calls states at each limit and one beyond, buffers of the right length and one off, slots of odd
+// boxes, and asks and commits, and prints the number that each call answers. The expected output is what the second implementation prints.
+mod asks;
 mod calls;
 mod commands;
 mod lengths;
@@ -15,4 +16,5 @@ fn main() {
     loads::run();
     lengths::run();
     slots::run();
+    asks::run();
 }

@@ -4,13 +4,14 @@ ghost use mathlib.Core.Path.{_≡_};
 ghost use Prim.Native.Nat.{_-_, _≤_};
 ghost use lib.ListN.{length};
 ghost use Rattle.wire.specs.Bytes.{zeros, at32};
+ghost use Rattle.load.specs.Marks.{marksBytes};
 ghost use Rattle.echo.specs.Echo.{echoBytes};
 ghost use Rattle.processor.specs.Line.{lineDone};
 ghost use Rattle.output.specs.Output.{outBytes};
 ghost use Rattle.processor.specs.Close.{closeDone};
 ghost use Rattle.buffered.specs.Input.{Held, waitingIn};
 ghost use Rattle.stream.specs.Record.{LongAs};
-ghost use Rattle.minute_calls.specs.Calls.{closedTo, carriedOut};
+ghost use Rattle.minute_calls.specs.Calls.{lineTo, closedTo, carriedOut};
 ghost use Rattle.minute_calls.specs.Events.{EventsRun, NoEvent};
 ghost use Rattle.minute_calls.specs.Line.{lineLength, lineIn};
 use buffered::input::Input;
@@ -38,13 +39,19 @@ fn line_length(body: &[u8]) -> usize
     i
 }
 
-// One command line. Its echo is not printed.
-fn line(state: State, body: &[u8]) -> Answer
-    ensures { λ r. ⌜ r ≡ lineDone state (lineIn (now (body .entry))) (zeros echoBytes) .answer ⌝ }
+// One command line. Its echo and its sum are not printed. No package comes to this program, so no staged byte is marked.
+fn line(state: State, staging: &[u8], body: &[u8]) -> Answer
+    ensures { λ r. ⌜ r ≡ lineTo (lineDone state (lineIn (now (body .entry))) (now (staging .entry)) (zeros marksBytes) (zeros echoBytes)) ⌝ }
 {
     let n = line_length(body);
+    let marks = [0u8; load::marks::MARKS_BYTES];
     let mut echo = [0u8; echo::ECHO_BYTES];
-    processor::line::line(state, &body[..n], &mut echo)
+    let told = processor::line::line(state, &body[..n], staging, &marks, &mut echo);
+    let after = told.state;
+    Answer {
+        number: told.number,
+        state: after,
+    }
 }
 
 // The line of a refused call.
@@ -130,7 +137,7 @@ pub fn carry_out(
     match kind {
         stream::record::READING => stream::record::reading(state, body),
         stream::record::CLOSE => close(state, tables, staging, slots, body, text, at),
-        _ => line(state, body),
+        _ => line(state, staging, body),
     }
 }
 

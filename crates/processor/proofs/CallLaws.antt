@@ -16,6 +16,7 @@ use Rattle.tables.specs.Tables.{tableBytes}
 use Rattle.sample_record.specs.Record.{recordGood}
 use Rattle.sort.specs.declared.event.Event.{Event}
 use Rattle.sort.specs.Event.{inRange}
+use Rattle.load.specs.Marks.{marksBytes, noneBad, stagedSum}
 use Rattle.load.specs.Staging.{stagingBytes, formed, fits, placeable, receivedSum, computedSum}
 use Rattle.echo.specs.Echo.{echoBytes}
 use Rattle.command.specs.Grammar.{bytesOk, lineOf}
@@ -65,65 +66,87 @@ reading-takes s h = let p = all-passed (readingChecks s) refl h in (p .0, ltb-tr
 
 -- ---- a line
 
--- past 1 and 4, the number is that of the command
-pub line-number : (s : State) (line : List ℕ) (echo : ℕ) → withinLimits s ≡ true → eqb echo echoBytes ≡ true → bytesOk line ≡ true
-    → lineNumber s line echo
-    ≡ numberBy (commandChecks (loadWaits (s .orders)) (commandsFull (s .orders)) (lineOf line (s .staging .reach)))
-unfolding lineNumber
-line-number s line echo w e b = rw (w, e, b)
+module _ (s : State) (line staging marks : List ℕ) (echo : ℕ) where
+  -- the checks of its command
+  abbrev pub askedChecks : List Check
+  askedChecks =
+      commandChecks (loadWaits (s .orders)) (commandsFull (s .orders)) (noneBad marks (s .staging .reach))
+      (stagedSum staging (s .staging .reach)) (lineOf line (s .staging .reach))
 
--- a line that is accepted passes each check
-pub record Tells (s : State) (line : List ℕ) (echo : ℕ) : Type 0 where
-  pub limits : withinLimits s ≡ true
-  pub echo-is : eqb echo echoBytes ≡ true
-  pub bytes : bytesOk line ≡ true
-  pub accepts : numberBy (commandChecks (loadWaits (s .orders)) (commandsFull (s .orders)) (lineOf line (s .staging .reach))) ≡ 0
+  -- what is judged before it
+  abbrev pub lineSound : Bool
+  lineSound = withinLimits s && eqb (length staging) stagingBytes && eqb (length marks) marksBytes && eqb echo echoBytes
 
-pub line-tells : (s : State) (line : List ℕ) (echo : ℕ) → lineNumber s line echo ≡ 0 → Tells s line echo
-unfolding lineNumber
-line-tells s line echo h =
-    let p = all-passed (lineChecks s line echo) refl h in
-    let q = and-split _ _ (p .0) in
-    record { limits = q .0; echo-is = q .1; bytes = p .1 .0; accepts = rw (q .0, q .1, p .1 .0) at h }
+  -- past 1 and 4, the number is that of the command
+  pub line-number : lineSound ≡ true → bytesOk line ≡ true → lineNumber s line staging marks echo ≡ numberBy askedChecks
+  unfolding lineNumber
+  line-number w b = rw (w, b)
 
--- 1 and 4, judged before the command: a number that is not 0 is the call's, and neither 5 nor above
-pub line-early : (s : State) (line : List ℕ) (echo n : ℕ) → n ≡ cond (withinLimits s && eqb echo echoBytes) (cond (bytesOk line) 0 4) 1
-    → (n ≡ 0 → ⊥) → (lineNumber s line echo ≡ n) × (leb 5 n ≡ false)
-unfolding lineNumber
-line-early s line echo n e h = go (withinLimits s && eqb echo echoBytes) (bytesOk line) _ e
-  where
-    go : (a b : Bool) (rest : ℕ) → n ≡ cond a (cond b 0 4) 1 → (cond a (cond b rest 4) 1 ≡ n) × (leb 5 n ≡ false)
-    go true true rest e = absurd (h e)
-    go true false rest e = (sym e, ap (leb 5) e)
-    go false b rest e = (sym e, ap (leb 5) e)
+  -- a line that is accepted passes each check
+  pub record Tells : Type 0 where
+    pub limits : withinLimits s ≡ true
+    pub accepts : numberBy askedChecks ≡ 0
 
-pub early-passed : (s : State) (line : List ℕ) (echo n : ℕ) → n ≡ cond (withinLimits s && eqb echo echoBytes) (cond (bytesOk line) 0 4) 1
-    → n ≡ 0 → (withinLimits s ≡ true) × (echo ≡ echoBytes) × (bytesOk line ≡ true)
-early-passed s line echo n e z =
-    let sound = withinLimits s && eqb echo echoBytes in
-    let p = all-passed ((sound, cause.bufferOrState) ∷ (bytesOk line, cause.lineBytes) ∷ []) refl (sym e ∙ z) in
-    let q = and-split _ _ (p .0) in
-    (q .0, eqb-true _ _ (q .1), p .1 .0)
+  pub line-tells : lineNumber s line staging marks echo ≡ 0 → Tells
+  unfolding lineNumber
+  line-tells h =
+      let p = all-passed (lineChecks s line staging marks echo) refl h in
+      let q = and-split _ _ (and-split _ _ (and-split _ _ (p .0) .0) .0) in
+      record { limits = q .0; accepts = rw (p .0, p .1 .0) at h }
+
+  -- 1 and 4, judged before the command: a number that is not 0 is the call's, and neither 5 nor above
+  pub line-early : (n : ℕ) → n ≡ cond lineSound (cond (bytesOk line) 0 4) 1 → (n ≡ 0 → ⊥)
+      → (lineNumber s line staging marks echo ≡ n) × (leb 5 n ≡ false)
+  unfolding lineNumber
+  line-early n e h = go lineSound (bytesOk line) _ e
+    where
+      go : (a b : Bool) (rest : ℕ) → n ≡ cond a (cond b 0 4) 1 → (cond a (cond b rest 4) 1 ≡ n) × (leb 5 n ≡ false)
+      go true true rest e = absurd (h e)
+      go true false rest e = (sym e, ap (leb 5) e)
+      go false b rest e = (sym e, ap (leb 5) e)
+
+  -- what is known past them
+  pub record Sound : Type 0 where
+    pub limits : withinLimits s ≡ true
+    pub staging-is : length staging ≡ stagingBytes
+    pub marks-are : length marks ≡ marksBytes
+    pub echo-is : echo ≡ echoBytes
+    pub bytes : bytesOk line ≡ true
+
+  pub early-passed : (n : ℕ) → n ≡ cond lineSound (cond (bytesOk line) 0 4) 1 → n ≡ 0 → Sound
+  early-passed n e z =
+      let p = all-passed ((lineSound, cause.bufferOrState) ∷ (bytesOk line, cause.lineBytes) ∷ []) refl (sym e ∙ z) in
+      let q = and-split _ _ (p .0) in
+      let r = and-split _ _ (q .0) in
+      let t = and-split _ _ (r .0) in
+      record {
+        limits = t .0;
+        staging-is = eqb-true _ _ (t .1);
+        marks-are = eqb-true _ _ (r .1);
+        echo-is = eqb-true _ _ (q .1);
+        bytes = p .1 .0;
+      }
 
 pub line-short : (line : List ℕ) → bytesOk line ≡ true → length line ≤ 80
 line-short line h = leb-true _ _ (and-left _ _ h)
 
 -- ---- a package
 
-pub record Stages (s : State) (p : List ℕ) (staging echo : ℕ) : Type 0 where
+pub record Stages (s : State) (p : List ℕ) (staging marks echo : ℕ) : Type 0 where
   pub limits : withinLimits s ≡ true
   pub staging-is : staging ≡ stagingBytes
+  pub marks-are : marks ≡ marksBytes
   pub echo-is : echo ≡ echoBytes
   pub no-load : not (loadWaits (s .orders)) ≡ true
   pub is-formed : formed p ≡ true
   pub is-placeable : placeable p (s .staging .next) ≡ true
 
-pub package-stages : (s : State) (p : List ℕ) (staging echo : ℕ) → isStaged (packageCallNumber s p staging echo) ≡ true
-    → Stages s p staging echo
+pub package-stages : (s : State) (p : List ℕ) (staging marks echo : ℕ) → isStaged (packageCallNumber s p staging marks echo) ≡ true
+    → Stages s p staging marks echo
 unfolding packageCallNumber
-package-stages s p staging echo h =
+package-stages s p staging marks echo h =
     let first : List Check =
-    (withinLimits s && eqb staging stagingBytes && eqb echo echoBytes, cause.bufferOrState)
+    (withinLimits s && eqb staging stagingBytes && eqb marks marksBytes && eqb echo echoBytes, cause.bufferOrState)
     ∷ (not (loadWaits (s .orders)), cause.loadWaits)
     ∷ (formed p, cause.packageForm)
     ∷ (fits p (s .staging .next), cause.pastStaging)
@@ -131,9 +154,11 @@ package-stages s p staging echo h =
     let k = passed-first isStaged first ((eqb (receivedSum p) (computedSum p), cause.packageSum) ∷ []) refl h in
     let q = and-split _ _ (k .0) in
     let r = and-split _ _ (q .0) in
+    let t = and-split _ _ (r .0) in
     record {
-      limits = r .0;
-      staging-is = eqb-true _ _ (r .1);
+      limits = t .0;
+      staging-is = eqb-true _ _ (t .1);
+      marks-are = eqb-true _ _ (r .1);
       echo-is = eqb-true _ _ (q .1);
       no-load = k .1 .0;
       is-formed = k .1 .1 .0;

@@ -23,12 +23,14 @@ use Rattle.counts.proofs.TalliedLaws.{tallied-most, boxes-differ, beacons-diffe
 use Rattle.samples.specs.declared.slots.SlotUse.{SlotUse}
 use Rattle.samples.specs.Samples.{Place, free, late, none, eligible, priorityOf, placeOf, useAfter}
 use Rattle.load.specs.declared.staging.Addresses.{Addresses}
+use Rattle.load.specs.Marks.{noneBad, stagedSum}
 use Rattle.load.specs.Staging.{formed, fits, addressesWithin}
 use Rattle.load.proofs.StagingLaws.{addresses-are, addresses-whole, addresses-after, fresh-addresses}
+use Rattle.command.specs.declared.command.Command.the-variants.{Load}
 use Rattle.command.specs.declared.command.Line.{Line}
-use Rattle.command.specs.declared.command.Line.the-variants.{Empty, Wrong, Waits, LoadZero, LoadAt}
+use Rattle.command.specs.declared.command.Line.the-variants.{Empty, Wrong, Waits, LoadZero, LoadAt, Ask, Commit}
 use Rattle.command.specs.Grammar.{lineOf}
-use Rattle.command.proofs.CommandLaws.{waits-ok, loadat-within}
+use Rattle.command.proofs.CommandLaws.{waits-ok, commit-ok, loadat-within}
 use Rattle.orders.specs.declared.Orders.{Orders}
 use Rattle.orders.specs.Orders.{mostCommands, waitingOf, loadWaits, commandsFull, counted, ordersWithin}
 use Rattle.orders.proofs.OrderLaws.{orders-are, pushed-within, counted-within, any-reach, fresh-within}
@@ -129,23 +131,36 @@ addressed-kept s a h n f k =
     staging-kept (withOrders s (counted (s .orders))) a
     (orders-kept s (counted (s .orders)) h (counted-within (s .orders) (s .staging .reach) f (state-limits s h .orders))) n k
 
-pub told-kept : (s : State) (bytes : List ℕ) (l : Line) → lineOf bytes (s .staging .reach) ≡ l → length (s .orders .waiting) ≡ mostCommands
-    → numberBy (commandChecks (loadWaits (s .orders)) (commandsFull (s .orders)) l) ≡ 0 → withinLimits s ≡ true
+-- one more counted, and nothing else
+counted-kept : (s : State) → withinLimits s ≡ true → not (commandsFull (s .orders)) ≡ true
+    → withinLimits (withOrders s (counted (s .orders))) ≡ true
+counted-kept s h f = orders-kept s (counted (s .orders)) h (counted-within (s .orders) (s .staging .reach) f (state-limits s h .orders))
+
+pub told-kept : (s : State) (bytes : List ℕ) (l : Line) (good : Bool) (sum : ℕ) → lineOf bytes (s .staging .reach) ≡ l
+    → length (s .orders .waiting) ≡ mostCommands
+    → numberBy (commandChecks (loadWaits (s .orders)) (commandsFull (s .orders)) good sum l) ≡ 0 → withinLimits s ≡ true
     → withinLimits (stateTold s l) ≡ true
 unfolding stateTold
-told-kept s bytes Empty e n z h = h
-told-kept s bytes Wrong e n z h = h
-told-kept s bytes (Waits c) e n z h =
-    let a = command-accepts (loadWaits (s .orders)) (commandsFull (s .orders)) (Waits c) z in
+told-kept s bytes Empty good sum e n z h = h
+told-kept s bytes Wrong good sum e n z h = h
+told-kept s bytes (Waits c) good sum e n z h =
+    let a = command-accepts (loadWaits (s .orders)) (commandsFull (s .orders)) good sum (Waits c) z in
     let ok = waits-ok bytes (s .staging .reach) c e in
     orders-kept s _ h (pushed-within (s .orders) c (s .staging .reach) n ok (a .free) (a .room) (state-limits s h .orders))
-told-kept s bytes LoadZero e n z h =
-    let a = command-accepts (loadWaits (s .orders)) (commandsFull (s .orders)) LoadZero z in
+told-kept s bytes LoadZero good sum e n z h =
+    let a = command-accepts (loadWaits (s .orders)) (commandsFull (s .orders)) good sum LoadZero z in
     addressed-kept s _ h (a .free) (a .room) fresh-addresses
-told-kept s bytes (LoadAt x) e n z h =
-    let a = command-accepts (loadWaits (s .orders)) (commandsFull (s .orders)) (LoadAt x) z in
+told-kept s bytes (LoadAt x) good sum e n z h =
+    let a = command-accepts (loadWaits (s .orders)) (commandsFull (s .orders)) good sum (LoadAt x) z in
     let w = addresses-are (s .staging) (state-limits s h .staging) in
     addressed-kept s _ h (a .free) (a .room) (addresses-whole _ (loadat-within bytes (s .staging .reach) x e) (w .1))
+told-kept s bytes Ask good sum e n z h =
+    let a = command-accepts (loadWaits (s .orders)) (commandsFull (s .orders)) good sum Ask z in
+    counted-kept s h (a .room)
+told-kept s bytes (Commit x y k) good sum e n z h =
+    let a = command-accepts (loadWaits (s .orders)) (commandsFull (s .orders)) good sum (Commit x y k) z in
+    let ok = commit-ok bytes (s .staging .reach) x y k e in
+    orders-kept s _ h (pushed-within (s .orders) (Load x y) (s .staging .reach) n ok (a .free) (a .room) (state-limits s h .orders))
 
 -- ---- a fresh state
 
@@ -195,20 +210,20 @@ module _ (s : State) (h : withinLimits s ≡ true) where
       (λ k. h)
 
   -- a state has 32 places for commands, as its type says
-  pub line-kept : (bytes echo : List ℕ) → length (s .orders .waiting) ≡ mostCommands
-      → withinLimits (lineDone s bytes echo .answer .state) ≡ true
+  pub line-kept : (bytes staging marks echo : List ℕ) → length (s .orders .waiting) ≡ mostCommands
+      → withinLimits (lineDone s bytes staging marks echo .answer .state) ≡ true
   unfolding lineDone
-  line-kept bytes echo n =
-      choice (λ x. withinLimits x ≡ true) (eqb (lineNumber s bytes (length echo)) 0) _ _
-      (λ k. told-kept s bytes _ refl n (line-tells s bytes (length echo) (eqb-true _ 0 k) .accepts) h)
+  line-kept bytes staging marks echo n =
+      choice (λ x. withinLimits x ≡ true) (eqb (lineNumber s bytes staging marks (length echo)) 0) _ _
+      (λ k. told-kept s bytes _ (noneBad marks (s .staging .reach)) (stagedSum staging (s .staging .reach)) refl n (line-tells s bytes staging marks (length echo) (eqb-true _ 0 k) .accepts) h)
       (λ k. h)
 
-  pub package-kept : (bytes staging echo : List ℕ) → withinLimits (packageDone s bytes staging echo .answer .state) ≡ true
+  pub package-kept : (bytes staging marks echo : List ℕ) → withinLimits (packageDone s bytes staging marks echo .answer .state) ≡ true
   unfolding packageDone
-  package-kept bytes staging echo =
-      choice (λ x. withinLimits x ≡ true) (isStaged (packageCallNumber s bytes (length staging) (length echo))) _ _
+  package-kept bytes staging marks echo =
+      choice (λ x. withinLimits x ≡ true) (isStaged (packageCallNumber s bytes (length staging) (length marks) (length echo))) _ _
       (λ k.
-      let p = package-stages s bytes (length staging) (length echo) k in
+      let p = package-stages s bytes (length staging) (length marks) (length echo) k in
       let f = and-right (formed bytes) (fits bytes (s .staging .next)) (p .is-placeable) in
       staging-kept s _ h (p .no-load) (addresses-after (s .staging) bytes (state-limits s h .staging) f))
       (λ k. h)

@@ -14,8 +14,8 @@ unfolding eventNumber readingNumber lineNumber packageCallNumber closeNumber lis
 lowest-given = record {
   of-event = λ s tables slots e n a. number-lowest 1 n (eventChecks s tables slots e) refl a .1;
   of-reading = λ s n a. number-lowest 1 n (readingChecks s) refl a .1;
-  of-line = λ s bytes echo n a. number-lowest 1 n (lineChecks s bytes echo) refl a .1;
-  of-package = λ s p staging echo n a. number-lowest 1 n (packageCallChecks s p staging echo) refl a .1;
+  of-line = λ s bytes staging marks echo n a. number-lowest 1 n (lineChecks s bytes staging marks echo) refl a .1;
+  of-package = λ s p staging marks echo n a. number-lowest 1 n (packageCallChecks s p staging marks echo) refl a .1;
   of-close = λ s tables staging slots out n a. number-lowest 1 n (closeChecks s tables staging slots out) refl a .1;
   of-listing = λ s i tables out n a. number-lowest 1 n (listingChecks s i tables out) refl a .1;
 }

@@ -18,9 +18,10 @@ Lowest cs number = (n : ℕ) → Applies n cs → number ≤ n
 pub record LowestGiven : Type 0 where
   pub of-event : (s : State) (tables slots : ℕ) (e : Event) → Lowest (eventChecks s tables slots e) (eventNumber s tables slots e)
   pub of-reading : (s : State) → Lowest (readingChecks s) (readingNumber s)
-  pub of-line : (s : State) (bytes : List ℕ) (echo : ℕ) → Lowest (lineChecks s bytes echo) (lineNumber s bytes echo)
-  pub of-package : (s : State) (p : List ℕ) (staging echo : ℕ)
-      → Lowest (packageCallChecks s p staging echo) (packageCallNumber s p staging echo)
+  pub of-line : (s : State) (bytes staging marks : List ℕ) (echo : ℕ)
+      → Lowest (lineChecks s bytes staging marks echo) (lineNumber s bytes staging marks echo)
+  pub of-package : (s : State) (p : List ℕ) (staging marks echo : ℕ)
+      → Lowest (packageCallChecks s p staging marks echo) (packageCallNumber s p staging marks echo)
   pub of-close : (s : State) (tables staging : ℕ) (slots : List ℕ) (out : ℕ)
       → Lowest (closeChecks s tables staging slots out) (closeNumber s tables staging slots out)
   pub of-listing : (s : State) (i tables out : ℕ) → Lowest (listingChecks s i tables out) (listingNumber s i tables out)

@@ -3,19 +3,23 @@ ghost use mathlib.Core.Path.{_≡_};
 ghost use mathlib.Core.Bool.{true};
 ghost use lib.ListN.{length};
 ghost use Rattle.echo.specs.Echo.{echoBytes};
-ghost use Rattle.load.specs.Staging.{stagingBytes, formed, placeable, stagingAfter, addressesAfter};
+ghost use Rattle.load.specs.Marks.{marksBytes, marksAfter};
+ghost use Rattle.load.specs.Staging.{stagingBytes, payloadBytes, formed, placeable, stagingAfter, addressesAfter};
 ghost use Rattle.state.specs.State.{withStaging};
 ghost use Rattle.processor.specs.Package.{isStaged, packageCallNumber, stagedEcho, packageDone};
 use crate::Answer;
 use causes::unless;
 use state::State;
 
-// The call's number, from the lengths of staging and echo.
-fn package_number(s: State, bytes: &[u8], staging: usize, echo: usize) -> u8
-    ensures { λ r. ⌜ r ≡ packageCallNumber s (now (bytes .entry)) staging echo ⌝ }
+// The call's number, from the lengths of staging, marks and echo.
+fn package_number(s: State, bytes: &[u8], staging: usize, marks: usize, echo: usize) -> u8
+    ensures { λ r. ⌜ r ≡ packageCallNumber s (now (bytes .entry)) staging marks echo ⌝ }
 {
     let limits = state::limits::within_limits(s);
-    let sound = limits & (staging == load::staging::STAGING_BYTES) & (echo == echo::ECHO_BYTES);
+    let sound = limits
+        & (staging == load::staging::STAGING_BYTES)
+        & (marks == load::marks::MARKS_BYTES)
+        & (echo == echo::ECHO_BYTES);
     let waits = orders::load_waits(s.orders);
     let judged = load::staging::judge(bytes, s.staging.next);
     let free = unless(!waits, causes::LOAD_WAITS, judged);
@@ -44,12 +48,17 @@ fn echo_staged(number: u8, next: u32, bytes: &[u8], echo: &mut [u8])
     }
 }
 
-// The package's bytes go to staging, and both addresses move.
-fn stage(s: State, bytes: &[u8], staging: &mut [u8]) -> State
-    requires { ⌜ (length (now staging) ≡ stagingBytes) × (placeable (now bytes) (s .staging .next) ≡ true) ⌝ }
+// The package's bytes go to staging, each marked as its sum is wrong or right, and both addresses move.
+fn stage(s: State, wrong: bool, bytes: &[u8], staging: &mut [u8], marks: &mut [u8]) -> State
+    requires { ⌜ (length (now staging) ≡ stagingBytes) × (length (now marks) ≡ marksBytes) ⌝ }
+    requires { ⌜ placeable (now bytes) (s .staging .next) ≡ true ⌝ }
     ensures state { λ r. ⌜ r ≡ withStaging s (addressesAfter (s .staging) (now (bytes .entry))) ⌝ }
     ensures staging { λ r. ⌜ now (staging .exit) ≡ stagingAfter (now (staging .entry)) (s .staging .next) (now (bytes .entry)) ⌝ }
+    ensures marks { λ r. ⌜ now (marks .exit)
+        ≡ marksAfter (now (marks .entry)) (s .staging .next) (payloadBytes (now (bytes .entry))) wrong ⌝ }
 {
+    let many = load::staging::payload_bytes(bytes);
+    load::marks::mark(marks, s.staging.next as usize, many as usize, wrong);
     let moved = load::staging::place(staging, s.staging, bytes);
     let mut t = s;
     t.staging = moved;
@@ -57,18 +66,29 @@ fn stage(s: State, bytes: &[u8], staging: &mut [u8]) -> State
 }
 
 // One load package: 1, 6, 8, 9, or its bytes staged with 0 or 10.
-pub fn package(state: State, bytes: &[u8], staging: &mut [u8], echo: &mut [u8]) -> Answer
-    ensures answer { λ r. ⌜ r ≡ packageDone state (now (bytes .entry)) (now (staging .entry)) (now (echo .entry)) .answer ⌝ }
+pub fn package(
+    state: State,
+    bytes: &[u8],
+    staging: &mut [u8],
+    marks: &mut [u8],
+    echo: &mut [u8],
+) -> Answer
+    ensures answer { λ r. ⌜ r
+        ≡ packageDone state (now (bytes .entry)) (now (staging .entry)) (now (marks .entry)) (now (echo .entry)) .answer ⌝ }
     ensures staging { λ r. ⌜ now (staging .exit)
-        ≡ packageDone state (now (bytes .entry)) (now (staging .entry)) (now (echo .entry)) .staging ⌝ }
-    ensures echo { λ r. ⌜ now (echo .exit) ≡ packageDone state (now (bytes .entry)) (now (staging .entry)) (now (echo .entry)) .echo ⌝ }
+        ≡ packageDone state (now (bytes .entry)) (now (staging .entry)) (now (marks .entry)) (now (echo .entry)) .staging ⌝ }
+    ensures marks { λ r. ⌜ now (marks .exit)
+        ≡ packageDone state (now (bytes .entry)) (now (staging .entry)) (now (marks .entry)) (now (echo .entry)) .marks ⌝ }
+    ensures echo { λ r. ⌜ now (echo .exit)
+        ≡ packageDone state (now (bytes .entry)) (now (staging .entry)) (now (marks .entry)) (now (echo .entry)) .echo ⌝ }
 {
-    let number = package_number(state, bytes, staging.len(), echo.len());
+    let number = package_number(state, bytes, staging.len(), marks.len(), echo.len());
     if !is_staged(number) {
         return Answer { number, state };
     }
     echo_staged(number, state.staging.next, bytes, echo);
-    let after = stage(state, bytes, staging);
+    let wrong = number == causes::PACKAGE_SUM;
+    let after = stage(state, wrong, bytes, staging, marks);
     Answer {
         number,
         state: after,

@@ -13,21 +13,21 @@ use Rattle.replay_calls.specs.Calls.{carriedOut, Left}
 use Rattle.replay_calls.specs.Ground.{groundOut}
 
 -- the end and a bad record change nothing and are the last
-abbrev pub Same : State → (tables staging slots echo : List ℕ) → Step → (tables′ staging′ slots′ echo′ : List ℕ) → Type 0
-Same s tables staging slots echo r tables′ staging′ slots′ echo′ =
-    (r .state ≡ s) × (tables′ ≡ tables) × (staging′ ≡ staging) × (slots′ ≡ slots) × (echo′ ≡ echo) × (r .more ≡ false)
+abbrev pub Same : State → (tables staging marks slots echo : List ℕ) → Step → (tables′ staging′ marks′ slots′ echo′ : List ℕ) → Type 0
+Same s tables staging marks slots echo r tables′ staging′ marks′ slots′ echo′ =
+    (r .state ≡ s) × (tables′ ≡ tables) × (staging′ ≡ staging) × (marks′ ≡ marks) × (slots′ ≡ slots) × (echo′ ≡ echo) × (r .more ≡ false)
 
--- from state s, tables, staging, slots and echo to those of the step: any other record is carried out, and the program goes
+-- from state s, tables, staging, marks, slots and echo to those of the step: any other record is carried out, and the program goes
 -- on behind it
-abbrev pub Stepped : Next → State → (tables staging slots echo buffer : List ℕ) → Step
-    → (tables′ staging′ slots′ echo′ : List ℕ) → Type 0
-Stepped End s tables staging slots echo buffer r tables′ staging′ slots′ echo′ =
-    Same s tables staging slots echo r tables′ staging′ slots′ echo′
-Stepped Bad s tables staging slots echo buffer r tables′ staging′ slots′ echo′ =
-    Same s tables staging slots echo r tables′ staging′ slots′ echo′
-Stepped (Record kind start from rest) s tables staging slots echo buffer r tables′ staging′ slots′ echo′ =
-    let done = carriedOut kind s tables staging slots echo (take (rest .at - from) (drop from buffer)) in
-    Left done (r .state) tables′ staging′ slots′ echo′
+abbrev pub Stepped : Next → State → (tables staging marks slots echo buffer : List ℕ) → Step
+    → (tables′ staging′ marks′ slots′ echo′ : List ℕ) → Type 0
+Stepped End s tables staging marks slots echo buffer r tables′ staging′ marks′ slots′ echo′ =
+    Same s tables staging marks slots echo r tables′ staging′ marks′ slots′ echo′
+Stepped Bad s tables staging marks slots echo buffer r tables′ staging′ marks′ slots′ echo′ =
+    Same s tables staging marks slots echo r tables′ staging′ marks′ slots′ echo′
+Stepped (Record kind start from rest) s tables staging marks slots echo buffer r tables′ staging′ marks′ slots′ echo′ =
+    let done = carriedOut kind s tables staging marks slots echo (take (rest .at - from) (drop from buffer)) in
+    Left done (r .state) tables′ staging′ marks′ slots′ echo′
     × (r .input .at ≡ rest .at)
     × (r .input .end ≡ rest .end)
     × (r .more ≡ true)

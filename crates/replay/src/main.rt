@@ -39,6 +39,7 @@ fn step(
     found: Next,
     tables: &mut [u8],
     staging: &mut [u8],
+    marks: &mut [u8],
     slots: &mut [u32],
     echo: &mut [u8],
     table: &mut [u8],
@@ -48,8 +49,9 @@ fn step(
 ) -> Done
     requires { ⌜ LiesIn found (now buffer) ⌝ }
     ensures input { λ r. ⌜ Held (r .step .input) (now (buffer .entry)) ⌝ }
-    ensures step { λ r. ⌜ Stepped found state (now (tables .entry)) (now (staging .entry)) (now (slots .entry)) (now (echo .entry))
-        (now (buffer .entry)) (r .step) (now (tables .exit)) (now (staging .exit)) (now (slots .exit)) (now (echo .exit)) ⌝ }
+    ensures step { λ r. ⌜ Stepped found state (now (tables .entry)) (now (staging .entry)) (now (marks .entry)) (now (slots .entry))
+        (now (echo .entry)) (now (buffer .entry)) (r .step) (now (tables .exit)) (now (staging .exit)) (now (marks .exit)) (now (slots .exit))
+        (now (echo .exit)) ⌝ }
     ensures ground { λ r. ⌜ gatherer (r .gathered) (now (table .exit))
         ≡ groundStepped found (gatherer gathered (now (table .entry))) (now (buffer .entry)) ⌝ }
 {
@@ -64,7 +66,18 @@ fn step(
         } => {
             let to = rest.at;
             let body = &buffer[from..to];
-            let after = calls::carry_out(kind, state, tables, staging, slots, echo, body, text, at);
+            let after = calls::carry_out(
+                kind,
+                state,
+                tables,
+                staging,
+                marks,
+                slots,
+                echo,
+                body,
+                text,
+                at,
+            );
             let then = ground_calls::carry_out(kind, gathered, table, body, text, at);
             both(going_on(after, rest), then)
         }
@@ -75,6 +88,7 @@ fn step(
 fn run(
     tables: &mut [u8],
     staging: &mut [u8],
+    marks: &mut [u8],
     slots: &mut [u32],
     echo: &mut [u8],
     table: &mut [u8],
@@ -94,6 +108,7 @@ fn run(
             found,
             tables,
             staging,
+            marks,
             slots,
             echo,
             table,
@@ -117,6 +132,7 @@ fn main() {
         return;
     }
     let mut staging = [0u8; load::staging::STAGING_BYTES];
+    let mut marks = [0u8; load::marks::MARKS_BYTES];
     let mut slots = [0u32; settings::SLOTS as usize];
     let mut echo = [0u8; echo::ECHO_BYTES];
     let mut table = [0u8; tables::TABLE_BYTES];
@@ -125,6 +141,7 @@ fn main() {
     run(
         &mut tables,
         &mut staging,
+        &mut marks,
         &mut slots,
         &mut echo,
         &mut table,

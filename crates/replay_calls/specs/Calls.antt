@@ -18,32 +18,35 @@ pub record Carried : Type 0 where
   pub state : State
   pub tables : List ℕ
   pub staging : List ℕ
+  pub marks : List ℕ
   pub slots : List ℕ
   pub echo : List ℕ
 
-abbrev pub carried : State → (tables staging slots echo : List ℕ) → Carried
-carried s tables staging slots echo = record { state = s; tables = tables; staging = staging; slots = slots; echo = echo }
+abbrev pub carried : State → (tables staging marks slots echo : List ℕ) → Carried
+carried s tables staging marks slots echo =
+    record { state = s; tables = tables; staging = staging; marks = marks; slots = slots; echo = echo }
 
 -- "1 event .., 2 reading .., 3 line .., 4 close", and 5 a package; a close's packets go to a buffer of zeros. A listing and the
 -- records of the ground change nothing
-unfoldable pub carriedOut : (kind : ℕ) → State → (tables staging slots echo body : List ℕ) → Carried
-carriedOut kind s tables staging slots echo body =
+unfoldable pub carriedOut : (kind : ℕ) → State → (tables staging marks slots echo body : List ℕ) → Carried
+carriedOut kind s tables staging marks slots echo body =
     let event = recordDone s tables slots body in
-    let line = lineDone s body echo in
+    let line = lineDone s body staging marks echo in
     let close = closeDone s (at32 body 0) tables staging slots (zeros outBytes) in
-    let loaded = packageDone s body staging echo in
-    cond (eqb kind 1) (carried (event .answer .state) tables staging (event .slots) echo)
-    (cond (eqb kind 2) (carried (readingDone s (countsIn body) .state) tables staging slots echo)
-    (cond (eqb kind 3) (carried (line .answer .state) tables staging slots (line .echo))
-    (cond (eqb kind 4) (carried (close .answer .state) (close .tables) staging (close .slots) echo)
-    (cond (eqb kind 5) (carried (loaded .answer .state) tables (loaded .staging) slots (loaded .echo))
-    (carried s tables staging slots echo)))))
+    let loaded = packageDone s body staging marks echo in
+    cond (eqb kind 1) (carried (event .answer .state) tables staging marks (event .slots) echo)
+    (cond (eqb kind 2) (carried (readingDone s (countsIn body) .state) tables staging marks slots echo)
+    (cond (eqb kind 3) (carried (line .answer .state) tables staging marks slots (line .echo))
+    (cond (eqb kind 4) (carried (close .answer .state) (close .tables) staging marks (close .slots) echo)
+    (cond (eqb kind 5) (carried (loaded .answer .state) tables (loaded .staging) (loaded .marks) slots (loaded .echo))
+    (carried s tables staging marks slots echo)))))
 
 -- this state and these buffers are those that were carried
-abbrev pub Left : Carried → State → (tables staging slots echo : List ℕ) → Type 0
-Left done s tables staging slots echo =
+abbrev pub Left : Carried → State → (tables staging marks slots echo : List ℕ) → Type 0
+Left done s tables staging marks slots echo =
     (s ≡ done .state)
     × (tables ≡ done .tables)
     × (staging ≡ done .staging)
+    × (marks ≡ done .marks)
     × (slots ≡ done .slots)
     × (echo ≡ done .echo)

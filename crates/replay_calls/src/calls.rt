@@ -40,29 +40,44 @@ fn reading(state: State, body: &[u8], text: &mut [u8], at: &mut usize) -> State
     answer.state
 }
 
-fn line(state: State, echo: &mut [u8], body: &[u8], text: &mut [u8], at: &mut usize) -> State
-    ensures answer { λ r. ⌜ r ≡ lineDone state (now (body .entry)) (now (echo .entry)) .answer .state ⌝ }
-    ensures echo { λ r. ⌜ now (echo .exit) ≡ lineDone state (now (body .entry)) (now (echo .entry)) .echo ⌝ }
+fn line(
+    state: State,
+    staging: &[u8],
+    marks: &[u8],
+    echo: &mut [u8],
+    body: &[u8],
+    text: &mut [u8],
+    at: &mut usize,
+) -> State
+    ensures answer { λ r. ⌜ r
+        ≡ lineDone state (now (body .entry)) (now (staging .entry)) (now (marks .entry)) (now (echo .entry)) .answer .state ⌝ }
+    ensures echo { λ r. ⌜ now (echo .exit)
+        ≡ lineDone state (now (body .entry)) (now (staging .entry)) (now (marks .entry)) (now (echo .entry)) .echo ⌝ }
 {
-    let answer = processor::line::line(state, body, echo);
-    answers::calls::print_line(text, at, answer.number, echo);
+    let answer = processor::line::line(state, body, staging, marks, echo);
+    answers::calls::print_line(text, at, answer.number, echo, answer.sum);
     answer.state
 }
 
 fn package(
     state: State,
     staging: &mut [u8],
+    marks: &mut [u8],
     echo: &mut [u8],
     body: &[u8],
     text: &mut [u8],
     at: &mut usize,
 ) -> State
-    ensures answer { λ r. ⌜ r ≡ packageDone state (now (body .entry)) (now (staging .entry)) (now (echo .entry)) .answer .state ⌝ }
+    ensures answer { λ r. ⌜ r
+        ≡ packageDone state (now (body .entry)) (now (staging .entry)) (now (marks .entry)) (now (echo .entry)) .answer .state ⌝ }
     ensures staging { λ r. ⌜ now (staging .exit)
-        ≡ packageDone state (now (body .entry)) (now (staging .entry)) (now (echo .entry)) .staging ⌝ }
-    ensures echo { λ r. ⌜ now (echo .exit) ≡ packageDone state (now (body .entry)) (now (staging .entry)) (now (echo .entry)) .echo ⌝ }
+        ≡ packageDone state (now (body .entry)) (now (staging .entry)) (now (marks .entry)) (now (echo .entry)) .staging ⌝ }
+    ensures marks { λ r. ⌜ now (marks .exit)
+        ≡ packageDone state (now (body .entry)) (now (staging .entry)) (now (marks .entry)) (now (echo .entry)) .marks ⌝ }
+    ensures echo { λ r. ⌜ now (echo .exit)
+        ≡ packageDone state (now (body .entry)) (now (staging .entry)) (now (marks .entry)) (now (echo .entry)) .echo ⌝ }
 {
-    let answer = processor::load_package::package(state, body, staging, echo);
+    let answer = processor::load_package::package(state, body, staging, marks, echo);
     answers::calls::print_package(text, at, answer.number, echo);
     answer.state
 }
@@ -112,6 +127,7 @@ pub fn carry_out(
     state: State,
     tables: &mut [u8],
     staging: &mut [u8],
+    marks: &mut [u8],
     slots: &mut [u32],
     echo: &mut [u8],
     body: &[u8],
@@ -120,15 +136,16 @@ pub fn carry_out(
 ) -> State
     requires { ⌜ Long kind (length (now body)) ⌝ }
     ensures { λ r. ⌜ Left
-        (carriedOut kind state (now (tables .entry)) (now (staging .entry)) (now (slots .entry)) (now (echo .entry)) (now (body .entry)))
-        r (now (tables .exit)) (now (staging .exit)) (now (slots .exit)) (now (echo .exit)) ⌝ }
+        (carriedOut kind state (now (tables .entry)) (now (staging .entry)) (now (marks .entry)) (now (slots .entry)) (now (echo .entry))
+        (now (body .entry)))
+        r (now (tables .exit)) (now (staging .exit)) (now (marks .exit)) (now (slots .exit)) (now (echo .exit)) ⌝ }
 {
     match kind {
         stream::record::EVENT => event(state, tables, slots, body, text, at),
         stream::record::READING => reading(state, body, text, at),
-        stream::record::LINE => line(state, echo, body, text, at),
+        stream::record::LINE => line(state, staging, marks, echo, body, text, at),
         stream::record::CLOSE => close(state, tables, staging, slots, body, text, at),
-        PACKAGE => package(state, staging, echo, body, text, at),
+        PACKAGE => package(state, staging, marks, echo, body, text, at),
         LISTING => {
             listing(state, tables, body, text, at);
             state

@@ -28,8 +28,8 @@ pub limits-kept : (w : World) (c : Call) → Typed c → length (w .state .order
 unfolding next
 limits-kept w (event t s e) y l h = event-kept (w .state) h (found t (w .tables)) (found s (w .slots)) e
 limits-kept w (reading counts) y l h = reading-kept (w .state) h counts (y .1)
-limits-kept w (line bytes echo) y l h = line-kept (w .state) h bytes echo l
-limits-kept w (load bytes g echo) y l h = package-kept (w .state) h bytes (found g (w .staging)) echo
+limits-kept w (line bytes g m echo) y l h = line-kept (w .state) h bytes (found g (w .staging)) (found m (w .marks)) echo l
+limits-kept w (load bytes g m echo) y l h = package-kept (w .state) h bytes (found g (w .staging)) (found m (w .marks)) echo
 limits-kept w (close time t g s out) y l h =
     close-kept (w .state) h time (found t (w .tables)) (found g (w .staging)) (found s (w .slots)) out
 limits-kept w (listing i time t out) y l h = h
@@ -47,17 +47,17 @@ pub refused-keeps : (w : World) (c : Call) → isStaged (numberOf (reply w c)) �
 unfolding next reply eventDone readingDone lineDone packageDone closeDone
 refused-keeps w (event t s e) h = rw (refused _ h, kept-same s (w .slots))
 refused-keeps w (reading counts) h = rw (refused _ h)
-refused-keeps w (line bytes echo) h = rw (refused _ h)
-refused-keeps w (load bytes g echo) h = rw (h, kept-same g (w .staging))
+refused-keeps w (line bytes g m echo) h = rw (refused _ h)
+refused-keeps w (load bytes g m echo) h = rw (h, kept-same g (w .staging), kept-same m (w .marks))
 refused-keeps w (close time t g s out) h = rw (refused _ h, kept-same t (w .tables), kept-same s (w .slots))
 refused-keeps w (listing i time t out) h = refl
 
--- it leaves the output and the echo too: only 5, 6 and 7 of a line have an echo of their own
+-- it leaves the output and the echo too: only 5, 6, 7, 15 and 16 of a line have an echo of their own
 abbrev pub LentLeft : World → Call → Type 0
 LentLeft w (event t s e) = Unit {0}
 LentLeft w (reading counts) = Unit {0}
-LentLeft w (line bytes echo) = leb wrongLine (lineIn w bytes echo .answer .number) ≡ false → lineIn w bytes echo .echo ≡ echo
-LentLeft w (load bytes g echo) = loadIn w bytes g echo .echo ≡ echo
+LentLeft w (line bytes g m echo) = leb wrongLine (lineIn w bytes g m echo .answer .number) ≡ false → lineIn w bytes g m echo .echo ≡ echo
+LentLeft w (load bytes g m echo) = loadIn w bytes g m echo .echo ≡ echo
 LentLeft w (close time t g s out) = closeIn w time t g s out .out ≡ out
 LentLeft w (listing i time t out) = listingIn w i time t out .out ≡ out
 
@@ -65,8 +65,8 @@ pub refused-leaves : (w : World) (c : Call) → isStaged (numberOf (reply w c)) 
 unfolding reply lineDone packageDone closeDone listingDone
 refused-leaves w (event t s e) h = tt
 refused-leaves w (reading counts) h = tt
-refused-leaves w (line bytes echo) h = λ k. rw (refused _ h, k)
-refused-leaves w (load bytes g echo) h = rw h
+refused-leaves w (line bytes g m echo) h = λ k. rw (refused _ h, k)
+refused-leaves w (load bytes g m echo) h = rw h
 refused-leaves w (close time t g s out) h = rw (refused _ h)
 refused-leaves w (listing i time t out) h = rw (refused _ h)
 
@@ -75,8 +75,8 @@ refused-leaves w (listing i time t out) h = rw (refused _ h)
 abbrev pub isClose : Call → Bool
 isClose (event t s e) = false
 isClose (reading counts) = false
-isClose (line bytes echo) = false
-isClose (load bytes g echo) = false
+isClose (line bytes g m echo) = false
+isClose (load bytes g m echo) = false
 isClose (close time t g s out) = true
 isClose (listing i time t out) = false
 
@@ -86,9 +86,9 @@ unfolding next eventDone readingDone lineDone packageDone stateTold
 between-closes w (event t s e) h =
     (decide (eqb (eventNumber (w .state) (length (found t (w .tables))) (length (found s (w .slots))) e) 0) (λ q. rw q) (λ q. rw q), refl)
 between-closes w (reading counts) h = (decide (eqb (readingNumber (w .state)) 0) (λ q. rw q) (λ q. rw q), refl)
-between-closes w (line bytes echo) h = (decide (eqb (lineNumber (w .state) bytes (length echo)) 0) (λ q. rw q) (λ q. rw q), refl)
-between-closes w (load bytes g echo) h =
-    (decide (isStaged (packageCallNumber (w .state) bytes (length (found g (w .staging))) (length echo))) (λ q. rw q) (λ q. rw q), refl)
+between-closes w (line bytes g m echo) h = (decide (eqb (lineNumber (w .state) bytes (found g (w .staging)) (found m (w .marks)) (length echo)) 0) (λ q. rw q) (λ q. rw q), refl)
+between-closes w (load bytes g m echo) h =
+    (decide (isStaged (packageCallNumber (w .state) bytes (length (found g (w .staging))) (length (found m (w .marks))) (length echo))) (λ q. rw q) (λ q. rw q), refl)
 between-closes w (close time t g s out) h = absurd (false≢true (sym h))
 between-closes w (listing i time t out) h = (refl, refl)
 

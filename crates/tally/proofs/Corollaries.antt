@@ -7,9 +7,6 @@ use native.Mathlib.Omega.{arith}
 use borrow.Author.Tests.{eq-eqb, le-leb, leb-true}
 use lib.Dec.{eqb, leb, ltb}
 use lib.ListN.{length, replicate, length-append, length-map, length-replicate}
-use Rattle.causes.specs.Causes as cause
-use Rattle.causes.specs.Checks.{Check}
-use Rattle.causes.proofs.CheckLaws.{passed-first}
 use Rattle.wire.specs.Lists.{all}
 use Rattle.wire.specs.Pieces.{padded}
 use Rattle.wire.proofs.Lists.{all-append, choice, decide}
@@ -23,9 +20,8 @@ use Rattle.sort.proofs.EventLaws.{outcome-names}
 use Rattle.samples.specs.Samples.{boxOf, sampled, slotsOf}
 use Rattle.samples.proofs.RecordLaws.{box-fits, event-box}
 use Rattle.samples.proofs.SampleLaws.{length-sampled}
-use Rattle.load.specs.Staging.{stagingBytes, formed, fits, receivedSum, computedSum}
+use Rattle.load.specs.Staging.{stagingBytes}
 use Rattle.load.proofs.StagingLaws.{addresses-are, length-staging-after}
-use Rattle.echo.specs.Echo.{echoBytes}
 use Rattle.orders.specs.Orders.{givenAt}
 use Rattle.orders.proofs.OrderLaws.{waiting-with}
 use Rattle.orders.proofs.RunLaws.{length-tables-after-all}
@@ -39,12 +35,13 @@ use Rattle.tally.specs.Calls.{Lent, own, Call, event, reading, line, loa
 use Rattle.tally.specs.Calls.{answered, closed, listed, World, freshWorld, reply, after, Lawful}
 use Rattle.tally.specs.Events.{sorted, isEligible, priority, recordFor, eligiblesBy, slotsBy}
 use Rattle.tally.specs.Tally.{Tally, freshTally, eventsOf, countsOf, eligibles, ownSlots, totalsOf, frameOf}
-use Rattle.tally.specs.Tally.{lentStaging, loadWaitsFor, numberFor, hasEffect, staged, ended, afterCall, tnext, treply, tafter}
+use Rattle.tally.specs.Tally.{numberFor, hasEffect, staged, ended, afterCall, tnext, treply, tafter}
 use Rattle.tally.specs.View.{viewState, view}
 use Rattle.tally.specs.Demand3.{All}
 use Rattle.tally.proofs.Invariant.{Inv, limhi-most, orders-most}
 use Rattle.tally.proofs.Places.{keep-passes, All-sampled, slots-length}
 use Rattle.tally.proofs.Replies.{step-reply}
+use Rattle.tally.proofs.Steps.{load-stages}
 use Rattle.tally.proofs.Theorem.{next-inv, next-lawful, fresh-view, fresh-inv, demand-3}
 
 -- ---- the own slots: each zero or of box 6 to 116
@@ -105,20 +102,13 @@ pub record Sized (t : Tally) : Type 0 where
 same-sizes : (t u : Tally) → u .tables ≡ t .tables → u .staging ≡ t .staging → Sized t → Sized u
 same-sizes t u a b z = record { tables-are = ap length a ∙ z .tables-are; staging-is = ap length b ∙ z .staging-is }
 
-staged-sized : (t : Tally) (bytes : List ℕ) (staging : Lent) (echo : List ℕ) → Sized t
-    → isStaged (numberFor t (load bytes staging echo)) ≡ true → Sized (staged t bytes)
-unfolding numberFor
-staged-sized t bytes staging echo z k =
-    let first : List Check =
-    (eqb (length (lentStaging t staging)) stagingBytes && eqb (length echo) echoBytes, cause.bufferOrState)
-    ∷ (not (loadWaitsFor t), cause.loadWaits)
-    ∷ (formed bytes, cause.packageForm)
-    ∷ (fits bytes (t .addresses .next), cause.pastStaging)
-    ∷ [] in
-    let p = passed-first isStaged first ((eqb (receivedSum bytes) (computedSum bytes), cause.packageSum) ∷ []) refl k in
+staged-sized : (t : Tally) (bytes : List ℕ) (g m : Lent) (echo : List ℕ) → Sized t
+    → isStaged (numberFor t (load bytes g m echo)) ≡ true → Sized (staged t bytes)
+staged-sized t bytes g m echo z k =
+    let p = load-stages t bytes g m echo k in
     record {
       tables-are = z .tables-are;
-      staging-is = length-staging-after (t .staging) bytes (t .addresses .next) (z .staging-is) (rw (p .1 .1 .0, p .1 .1 .1 .0));
+      staging-is = length-staging-after (t .staging) bytes (t .addresses .next) (z .staging-is) (rw (p .is-formed, p .is-fitting));
     }
 
 ended-sized : (t : Tally) → Inv t → Sized t → Sized (ended t)
@@ -136,8 +126,8 @@ ended-sized t v z =
 after-sized : (t : Tally) (c : Call) → Inv t → Sized t → hasEffect c (numberFor t c) ≡ true → Sized (afterCall t c)
 after-sized t (event tables slots e) v z q = same-sizes t _ refl refl z
 after-sized t (reading counts) v z q = same-sizes t _ refl refl z
-after-sized t (line bytes echo) v z q = same-sizes t _ refl refl z
-after-sized t (load bytes staging echo) v z q = staged-sized t bytes staging echo z q
+after-sized t (line bytes g m echo) v z q = same-sizes t _ refl refl z
+after-sized t (load bytes g m echo) v z q = staged-sized t bytes g m echo z q
 after-sized t (close time tables staging slots out) v z q = ended-sized t v z
 after-sized t (listing i time tables out) v z q = z
 
@@ -157,27 +147,27 @@ inv-after (c ∷ cs) t v l = inv-after cs (tnext t c) (next-inv t c cs v l) (nex
 
 -- ---- the next call after any lawful list, from tables and staging of the right length
 
-module _ (tables staging : List ℕ) (lt : length tables ≡ tableBytes) (ls : length staging ≡ stagingBytes) (cs : List Call)
-    (l : Lawful (freshWorld tables staging) cs) where
+module _ (tables staging marks : List ℕ) (lt : length tables ≡ tableBytes) (ls : length staging ≡ stagingBytes) (cs : List Call)
+    (l : Lawful (freshWorld tables staging marks) cs) where
   -- the tally at that moment
   abbrev pub now : Tally
-  now = tafter (freshTally tables staging) cs
+  now = tafter (freshTally tables staging marks) cs
 
-  lawful-view : Lawful (view (freshTally tables staging)) cs
-  lawful-view = subst (λ w. Lawful w cs) (fresh-view tables staging) l
+  lawful-view : Lawful (view (freshTally tables staging marks)) cs
+  lawful-view = subst (λ w. Lawful w cs) (fresh-view tables staging marks) l
 
   now-inv : Inv now
-  now-inv = inv-after cs (freshTally tables staging) (fresh-inv tables staging) lawful-view
+  now-inv = inv-after cs (freshTally tables staging marks) (fresh-inv tables staging marks) lawful-view
 
   now-sized : Sized now
-  now-sized = sized-after cs (freshTally tables staging) (fresh-inv tables staging) lawful-view record { tables-are = lt; staging-is = ls }
+  now-sized = sized-after cs (freshTally tables staging marks) (fresh-inv tables staging marks) lawful-view record { tables-are = lt; staging-is = ls }
 
-  world-now : after (freshWorld tables staging) cs ≡ view now
-  world-now = demand-3 tables staging cs l .ending
+  world-now : after (freshWorld tables staging marks) cs ≡ view now
+  world-now = demand-3 tables staging marks cs l .ending
 
   -- an event in its ranges is refused only after 1,000,000 events since the last close
   pub event-now : (e : Event) → inRange e ≡ true
-      → reply (after (freshWorld tables staging) cs) (event own own e) ≡ answered (cond (ltb (length (eventsOf now)) mostEvents) 0 3)
+      → reply (after (freshWorld tables staging marks) cs) (event own own e) ≡ answered (cond (ltb (length (eventsOf now)) mostEvents) 0 3)
   unfolding treply numberFor
   event-now e r =
       ap (λ (w : World). reply w (event own own e)) world-now
@@ -186,7 +176,7 @@ module _ (tables staging : List ℕ) (lt : length tables ≡ tableBytes) (ls : l
 
   -- a close with output of the right length is never refused, and hands out what the tally has
   pub close-now : (time : ℕ) (out : List ℕ) → length out ≡ outBytes
-      → reply (after (freshWorld tables staging) cs) (close time own own own out)
+      → reply (after (freshWorld tables staging marks) cs) (close time own own own out)
       ≡ closed 0 (length (eventsOf now)) (countsOf now) (min slotCount (length (eligibles now)))
       (packetsOf (frameOf now) time (totalsOf now) (countsOf now) (now .settings) (now .tables) (ownSlots now))
   unfolding treply numberFor
@@ -203,7 +193,7 @@ module _ (tables staging : List ℕ) (lt : length tables ≡ tableBytes) (ls : l
 
   -- a listing with output of the right length is refused only where i is none of the 250, and brings down the tally's tables
   pub listing-now : (i time : ℕ) (out : List ℕ) → length out ≡ packetBytes
-      → reply (after (freshWorld tables staging) cs) (listing i time own out)
+      → reply (after (freshWorld tables staging marks) cs) (listing i time own out)
       ≡ cond (ltb i listingPackets) (listed 0 (listingPacket (frameOf now) time i (now .tables))) (listed 14 out)
   unfolding treply numberFor
   listing-now i time out lo =

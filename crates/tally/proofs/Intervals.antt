@@ -42,8 +42,8 @@ pub reply-right : (t : Tally) (c : Call) → Inv t → ClosedRight t (treply t c
 unfolding treply
 reply-right t (event tables slots e) v = tt
 reply-right t (reading counts) v = tt
-reply-right t (line bytes echo) v = tt
-reply-right t (load bytes staging echo) v = tt
+reply-right t (line bytes g m echo) v = tt
+reply-right t (load bytes g m echo) v = tt
 reply-right t (close time tables staging slots out) v =
     let n = numberFor t (close time tables staging slots out) in
     choice (ClosedRight t) (eqb n 0) _ _ (λ q. ended-right t v time) (refused-right t n out)

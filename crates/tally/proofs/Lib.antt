@@ -6,6 +6,7 @@ pub mod Intervals
 pub mod Invariant
 pub mod Places
 pub mod Replies
+pub mod Staged
 pub mod Starred
 pub mod States
 pub mod Steps

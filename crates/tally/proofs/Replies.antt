@@ -52,8 +52,8 @@ pub step-reply : (t : Tally) (v : Inv t) (c : Call) â†’ LawfulCall (view t) c â†
 unfolding reply treply view eventDone readingDone lineDone packageDone closeDone listingDone
 step-reply t v (event tables slots e) h = ap answered (event-number t v tables slots e)
 step-reply t v (reading counts) h = ap answered (reading-number t v counts)
-step-reply t v (line bytes echo) h = rw (line-number t v bytes echo)
-step-reply t v (load bytes staging echo) h = rw (load-number t v bytes staging echo)
+step-reply t v (line bytes g m echo) h = rw (line-number t v bytes g m echo)
+step-reply t v (load bytes g m echo) h = rw (load-number t v bytes g m echo)
 step-reply t v (close time tables staging slots out) h =
     let c = close time tables staging slots out in
     rw (close-number t v time tables staging slots out) (decide (eqb (numberFor t c) 0)

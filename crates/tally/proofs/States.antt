@@ -1,6 +1,6 @@
 -- The state and the slots that the tally stands for, after each thing that a call does to it. Assumes nothing.
 use mathlib.Core.Path.{_≡_, refl, sym, ap, _∙_}
-use mathlib.Core.Bool.{Bool, true, false, cond}
+use mathlib.Core.Bool.{Bool, true, false, _&&_, not, cond}
 use mathlib.Core.List.{List, [], _∷_, _++_, map, append-nil}
 use Prim.Native.Nat.{ℕ, _+_, _%_, _≤_, _<_}
 use native.Mathlib.Omega.{arith}
@@ -16,21 +16,22 @@ use Rattle.sort.specs.declared.event.Event.{Event}
 use Rattle.samples.specs.declared.slots.SlotUse.{SlotUse}
 use Rattle.samples.specs.Samples.{Place, none, placeOf, slotsAfter, useAfter, slotsOf, useOf}
 use Rattle.samples.proofs.SampleLaws.{place-agrees, replaced-few, sampled-few}
+use Rattle.command.specs.declared.command.Command.{Command}
+use Rattle.command.specs.declared.command.Command.the-variants.{Load}
 use Rattle.command.specs.declared.command.Line.{Line}
-use Rattle.command.specs.declared.command.Line.the-variants.{Empty, Wrong, Waits, LoadZero, LoadAt}
-use Rattle.orders.specs.Orders.{freshOrders, ordersWith}
+use Rattle.command.specs.declared.command.Line.the-variants.{Empty, Wrong, Waits, LoadZero, LoadAt, Ask, Commit}
+use Rattle.orders.specs.Orders.{freshOrders, ordersWith, pushed}
 use Rattle.orders.specs.Run.{settingsAfterAll, addressesAfterAll}
 use Rattle.orders.proofs.OrderLaws.{room, waiting-with, pushed-with}
 use Rattle.state.specs.Interval.{noCounts, freshInterval, withReading}
 use Rattle.state.specs.State.{withOrders}
-use Rattle.causes.specs.Checks.{numberBy}
+use Rattle.command.specs.Asked.{isCommand}
 use Rattle.processor.specs.Event.{placeFor, slotsTaken, intervalTaken}
 use Rattle.processor.specs.Reading.{addedTotals}
-use Rattle.accepted_line.specs.Told.{commandChecks, stateTold}
+use Rattle.accepted_line.specs.Told.{stateTold}
 use Rattle.processor.specs.Close.{stateClosed}
-use Rattle.accepted_line.proofs.ToldLaws.{command-accepts}
 use Rattle.tally.specs.Events.{sorted, inBox, inBeacon, countsBy, isEligible, eligiblesBy, priority, recordFor, slotsBy, useBy}
-use Rattle.tally.specs.Tally.{noneGathered, Tally, totalsBy, loadWaitsFor, fullFor, heard, ended}
+use Rattle.tally.specs.Tally.{noneGathered, Tally, totalsBy, fullFor, heard, ended}
 use Rattle.tally.specs.View.{viewInterval, viewState}
 use Rattle.tally.proofs.CountLaws.{counts-snoc}
 use Rattle.tally.proofs.Invariant.{Inv, orders-most}
@@ -114,17 +115,24 @@ reading-interval s tables es rs counts = λ i. record {
 
 -- ---- an accepted line
 
-pub heard-state : (t : Tally) → Inv t → (l : Line) → numberBy (commandChecks (loadWaitsFor t) (fullFor t) l) ≡ 0
-    → stateTold (viewState t) l ≡ viewState (heard t l)
+-- one more command that waits, where there is room
+waits-state : (t : Tally) → Inv t → (c : Command) → not (fullFor t) ≡ true
+    → withOrders (viewState t) (pushed (ordersWith (t .told .accepted) (t .told .waiting)) c)
+    ≡ withOrders (viewState t) (ordersWith (t .told .accepted + 1) (t .told .waiting ++ record { command = c } ∷ []))
+waits-state t v c h =
+    let w = orders-most t v in
+    let r = room (ordersWith (t .told .accepted) (t .told .waiting)) h in
+    ap (withOrders (viewState t)) (pushed-with (t .told .accepted) (t .told .waiting) c (omega (arith, w .waiters-most)))
+
+pub heard-state : (t : Tally) → Inv t → (l : Line) → not (isCommand l && fullFor t) ≡ true → stateTold (viewState t) l ≡ viewState (heard t l)
 unfolding stateTold
 heard-state t v Empty h = refl
 heard-state t v Wrong h = refl
-heard-state t v (Waits c) h =
-    let w = orders-most t v in
-    let r = room (ordersWith (t .told .accepted) (t .told .waiting)) (command-accepts (loadWaitsFor t) (fullFor t) (Waits c) h .room) in
-    ap (withOrders (viewState t)) (pushed-with (t .told .accepted) (t .told .waiting) c (omega (arith, w .waiters-most)))
+heard-state t v (Waits c) h = waits-state t v c h
 heard-state t v LoadZero h = refl
 heard-state t v (LoadAt a) h = refl
+heard-state t v Ask h = refl
+heard-state t v (Commit a y n) h = waits-state t v (Load a y) h
 
 -- ---- an interval without events
 

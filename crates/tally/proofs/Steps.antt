@@ -1,32 +1,34 @@
 -- One call: its number, and the processor's world after it, are the tally's. Assumes nothing.
 use mathlib.Core.Path.{_≡_, refl, ap, _∙_}
-use mathlib.Core.Bool.{true, _&&_, false≢true}
+use mathlib.Core.Bool.{Bool, true, false, _&&_, not, cond, false≢true}
 use mathlib.Core.List.{List, [], _∷_}
 use Prim.Native.Nat.{ℕ}
-use borrow.Author.Tests.{eqb-true, eq-eqb}
+use borrow.Author.Tests.{eqb-true}
 use lib.Dec.{eqb}
 use lib.ListN.{length}
 use Rattle.causes.specs.Causes as cause
-use Rattle.causes.specs.Checks.{numberBy}
-use Rattle.causes.proofs.CheckLaws.{passed-first}
-use Rattle.wire.proofs.Lists.{and-left, and-right, decide}
+use Rattle.causes.specs.Checks.{Check}
+use Rattle.causes.proofs.CheckLaws.{all-passed, passed-first}
+use Rattle.wire.proofs.Lists.{and-left, and-right, and-split, decide}
+use Rattle.wire.proofs.Pieces.{each-same}
 use Rattle.sort.specs.declared.event.Event.{Event}
 use Rattle.echo.specs.Echo.{echoBytes}
-use Rattle.command.specs.Grammar.{bytesOk}
+use Rattle.load.specs.Marks.{marksBytes, noneBad}
+use Rattle.load.specs.Staging.{stagingBytes, formed, fits, receivedSum, computedSum}
 use Rattle.orders.specs.Run.{tablesAfterAll}
 use Rattle.orders.proofs.OrderLaws.{waiting-with}
 use Rattle.state.specs.State.{withInterval}
 use Rattle.processor.specs.Event.{eventNumber, eventDone}
 use Rattle.processor.specs.Reading.{readingNumber, readingDone}
-use Rattle.accepted_line.specs.Told.{commandChecks}
+use Rattle.accepted_line.proofs.ToldLaws.{Accepts, command-accepts}
 use Rattle.processor.specs.Line.{lineNumber, lineDone}
 use Rattle.processor.specs.Package.{isStaged, packageCallNumber, packageDone}
 use Rattle.processor.specs.Close.{closeNumber, closeDone}
 use Rattle.processor.specs.Listing.{listingNumber, listingDone}
 use Rattle.tally.specs.Calls.{Lent, own, other, found, kept, isOwn, Call, event, reading}
 use Rattle.tally.specs.Calls.{line, load, close, listing, numberOf, next, reply, owns, LawfulCall}
-use Rattle.tally.specs.Tally.{Tally, eventsOf, ownSlots, lentTables, lentStaging, lentSlots}
-use Rattle.tally.specs.Tally.{loadWaitsFor, fullFor, lineFor, numberFor, hasEffect, ended, tnext}
+use Rattle.tally.specs.Tally.{Tally, eventsOf, ownSlots, lentTables, lentStaging, lentMarks, lentSlots, loadWaitsFor, fullFor}
+use Rattle.tally.specs.Tally.{lineFor, goodFor, sumFor, checksFor, numberFor, hasEffect, ended, tnext}
 use Rattle.tally.specs.View.{viewState, view}
 use Rattle.tally.proofs.Invariant.{Inv, limhi-most}
 use Rattle.tally.proofs.States.{event-slots, event-interval, reading-interval, heard-state, no-slots, closed-state}
@@ -57,14 +59,21 @@ module _ (t : Tally) (v : Inv t) where
   unfolding readingNumber numberFor
   reading-number counts = rw (v .limits)
 
-  pub line-number : (bytes echo : List ℕ) → lineNumber (viewState t) bytes (length echo) ≡ numberFor t (line bytes echo)
-  unfolding lineNumber numberFor
-  line-number bytes echo = rw (v .limits, waiting-with (t .told .accepted) (t .told .waiting))
+  -- the own marks tell what the tally keeps
+  good-is : (m : Lent) → noneBad (lentMarks t m) (t .addresses .reach) ≡ goodFor t m
+  good-is own = each-same (t .addresses .reach) _ _ (λ i h. ap not (v .staged i h .1))
+  good-is (other x) = refl
 
-  pub load-number : (bytes : List ℕ) (staging : Lent) (echo : List ℕ)
-      → packageCallNumber (viewState t) bytes (length (lentStaging t staging)) (length echo) ≡ numberFor t (load bytes staging echo)
+  pub line-number : (bytes : List ℕ) (g m : Lent) (echo : List ℕ)
+      → lineNumber (viewState t) bytes (lentStaging t g) (lentMarks t m) (length echo) ≡ numberFor t (line bytes g m echo)
+  unfolding lineNumber numberFor
+  line-number bytes g m echo = rw (v .limits, waiting-with (t .told .accepted) (t .told .waiting), good-is m)
+
+  pub load-number : (bytes : List ℕ) (g m : Lent) (echo : List ℕ)
+      → packageCallNumber (viewState t) bytes (length (lentStaging t g)) (length (lentMarks t m)) (length echo)
+      ≡ numberFor t (load bytes g m echo)
   unfolding packageCallNumber numberFor
-  load-number bytes staging echo = rw (v .limits, waiting-with (t .told .accepted) (t .told .waiting))
+  load-number bytes g m echo = rw (v .limits, waiting-with (t .told .accepted) (t .told .waiting))
 
   pub close-number : (time : ℕ) (tables staging slots : Lent) (out : List ℕ)
       → closeNumber (viewState t) (length (lentTables t tables)) (length (lentStaging t staging)) (lentSlots t slots) (length out)
@@ -81,8 +90,8 @@ module _ (t : Tally) (v : Inv t) where
   unfolding reply view eventDone readingDone lineDone packageDone closeDone listingDone
   number-is (event tables slots e) = event-number tables slots e
   number-is (reading counts) = reading-number counts
-  number-is (line bytes echo) = line-number bytes echo
-  number-is (load bytes staging echo) = load-number bytes staging echo
+  number-is (line bytes g m echo) = line-number bytes g m echo
+  number-is (load bytes g m echo) = load-number bytes g m echo
   number-is (close time tables staging slots out) = close-number time tables staging slots out
   number-is (listing i time tables out) = listing-number i time tables out
 
@@ -93,19 +102,55 @@ zero-staged n h = rw h
 pub effect-staged : (c : Call) (n : ℕ) → hasEffect c n ≡ true → isStaged n ≡ true
 effect-staged (event tables slots e) n h = zero-staged n h
 effect-staged (reading counts) n h = zero-staged n h
-effect-staged (line bytes echo) n h = zero-staged n h
-effect-staged (load bytes staging echo) n h = h
+effect-staged (line bytes g m echo) n h = zero-staged n h
+effect-staged (load bytes g m echo) n h = h
 effect-staged (close time tables staging slots out) n h = zero-staged n h
 effect-staged (listing i time tables out) n h = zero-staged n h
 
 -- a line that is accepted passes its command's checks
-line-heard : (t : Tally) (bytes echo : List ℕ) → numberFor t (line bytes echo) ≡ 0
-    → numberBy (commandChecks (loadWaitsFor t) (fullFor t) (lineFor t bytes)) ≡ 0
+pub line-heard : (t : Tally) (bytes : List ℕ) (g m : Lent) (echo : List ℕ) → numberFor t (line bytes g m echo) ≡ 0
+    → Accepts (loadWaitsFor t) (fullFor t) (goodFor t m) (sumFor t g) (lineFor t bytes)
 unfolding numberFor
-line-heard t bytes echo h =
-    let p = passed-first (λ n. eqb n 0) ((eqb (length echo) echoBytes, cause.bufferOrState) ∷ (bytesOk bytes, cause.lineBytes) ∷ [])
-    (commandChecks (loadWaitsFor t) (fullFor t) (lineFor t bytes)) refl (eq-eqb _ 0 h) in
-    rw (p .0, p .1 .0) at h
+line-heard t bytes g m echo h =
+    let p = all-passed (checksFor t (line bytes g m echo)) refl h in
+    command-accepts (loadWaitsFor t) (fullFor t) (goodFor t m) (sumFor t g) (lineFor t bytes) (rw (p .0, p .1 .0) at h)
+
+-- a package that is staged finds no load waiting and staging and marks of their lengths, and its number tells whether its sum is right
+pub record Stages (t : Tally) (bytes : List ℕ) (g m : Lent) (n : ℕ) : Type 0 where
+  pub staging-is : length (lentStaging t g) ≡ stagingBytes
+  pub marks-are : length (lentMarks t m) ≡ marksBytes
+  pub no-load : not (loadWaitsFor t) ≡ true
+  pub is-formed : formed bytes ≡ true
+  pub is-fitting : fits bytes (t .addresses .next) ≡ true
+  pub number-tells : eqb n 10 ≡ not (eqb (receivedSum bytes) (computedSum bytes))
+
+pub load-stages : (t : Tally) (bytes : List ℕ) (g m : Lent) (echo : List ℕ) → isStaged (numberFor t (load bytes g m echo)) ≡ true
+    → Stages t bytes g m (numberFor t (load bytes g m echo))
+unfolding numberFor
+load-stages t bytes g m echo h =
+    let first : List Check = (
+      eqb (length (lentStaging t g)) stagingBytes && eqb (length (lentMarks t m)) marksBytes && eqb (length echo) echoBytes,
+      cause.bufferOrState,
+    )
+    ∷ (not (loadWaitsFor t), cause.loadWaits)
+    ∷ (formed bytes, cause.packageForm)
+    ∷ (fits bytes (t .addresses .next), cause.pastStaging)
+    ∷ [] in
+    let k = passed-first isStaged first ((eqb (receivedSum bytes) (computedSum bytes), cause.packageSum) ∷ []) refl h in
+    let q = and-split _ _ (k .0) in
+    let r = and-split _ _ (q .0) in
+    record {
+      staging-is = eqb-true _ _ (r .0);
+      marks-are = eqb-true _ _ (r .1);
+      no-load = k .1 .0;
+      is-formed = k .1 .1 .0;
+      is-fitting = k .1 .1 .1 .0;
+      number-tells = rw (k .0, k .1 .0, k .1 .1 .0, k .1 .1 .1 .0) (ten (eqb (receivedSum bytes) (computedSum bytes)));
+    }
+  where
+    ten : (b : Bool) → eqb (cond b 0 10) 10 ≡ not b
+    ten true = refl
+    ten false = refl
 
 -- ---- the world after
 
@@ -128,6 +173,7 @@ module _ (t : Tally) (v : Inv t) where
             (event-interval (t .settings) (t .tables) (eventsOf t) e (limhi-most t v) (t .gathered .readings) i);
         tables = t .tables;
         staging = t .staging;
+        marks = t .marks;
         slots = event-slots (t .settings) (t .tables) (eventsOf t) e (limhi-most t v) i;
       }))
       (λ q. rw (q, kept-same slots (ownSlots t))))
@@ -137,24 +183,37 @@ module _ (t : Tally) (v : Inv t) where
         state = withInterval (viewState t) (reading-interval (t .settings) (t .tables) (eventsOf t) (t .gathered .readings) counts i);
         tables = t .tables;
         staging = t .staging;
+        marks = t .marks;
         slots = ownSlots t;
       }))
       (λ q. rw q))
-  step-next (line bytes echo) h =
-      let n = numberFor t (line bytes echo) in
-      rw (line-number t v bytes echo) (decide (eqb n 0)
+  step-next (line bytes g m echo) h =
+      let n = numberFor t (line bytes g m echo) in
+      rw (line-number t v bytes g m echo) (decide (eqb n 0)
       (λ q. rw q (λ i. record {
-        state = heard-state t v (lineFor t bytes) (line-heard t bytes echo (eqb-true n 0 q)) i;
+        state = heard-state t v (lineFor t bytes) (line-heard t bytes g m echo (eqb-true n 0 q) .room) i;
         tables = t .tables;
         staging = t .staging;
+        marks = t .marks;
         slots = ownSlots t;
       }))
       (λ q. rw q))
-  step-next (load bytes staging echo) h =
-      let c = load bytes staging echo in
-      rw (load-number t v bytes staging echo) (decide (isStaged (numberFor t c))
-      (λ q. rw (q, own-kept staging (t .staging) _ (owned c h q), own-found staging (t .staging) (owned c h q)))
-      (λ q. rw (q, kept-same staging (t .staging))))
+  step-next (load bytes g m echo) h =
+      let c = load bytes g m echo in
+      rw (load-number t v bytes g m echo) (decide (isStaged (numberFor t c))
+      (λ q.
+      let o = owned c h q in
+      let a = and-left (isOwn g) (isOwn m) o in
+      let b = and-right (isOwn g) (isOwn m) o in
+      rw (
+        q,
+        own-kept g (t .staging) _ a,
+        own-kept m (t .marks) _ b,
+        own-found g (t .staging) a,
+        own-found m (t .marks) b,
+        load-stages t bytes g m echo q .number-tells,
+      ))
+      (λ q. rw (q, kept-same g (t .staging), kept-same m (t .marks))))
   step-next (close time tables staging slots out) h =
       let c = close time tables staging slots out in
       rw (close-number t v time tables staging slots out) (decide (eqb (numberFor t c) 0)
@@ -173,6 +232,7 @@ module _ (t : Tally) (v : Inv t) where
         state = closed-state t i;
         tables = tablesAfterAll (t .tables) (t .staging) (t .addresses .reach) (waiting-with (t .told .accepted) (t .told .waiting) i);
         staging = t .staging;
+        marks = t .marks;
         slots = no-slots (ended t .settings) (ended t .tables) i;
       }))
       (λ q. rw (q, kept-same tables (t .tables), kept-same slots (ownSlots t))))

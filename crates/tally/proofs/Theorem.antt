@@ -27,10 +27,10 @@ use Rattle.processor.specs.Close.{closeNumber, stateClosed, closeDone}
 use Rattle.processor.proofs.LimitsKept.{fresh-kept}
 use Rattle.tally.specs.Calls.{Lent, own, other, found, isOwn, Call, event, reading, line, load, close, listing}
 use Rattle.tally.specs.Calls.{Reply, World, freshWorld, next, reply, replies, after, Typed, LawfulCall, Lawful}
-use Rattle.tally.specs.Tally.{Tally, freshTally, eventsOf, checksFor, numberFor}
+use Rattle.tally.specs.Tally.{unwritten, Tally, freshTally, eventsOf, loadWaitsFor, checksFor, numberFor}
 use Rattle.tally.specs.Tally.{hasEffect, afterCall, tnext, treply, treplies, tafter}
 use Rattle.tally.specs.View.{viewState, view}
-use Rattle.tally.specs.Demand3.{All, Balanced, Moment, Moments, ClosedRight, Intervals, ClosedBalanced, takenOne}
+use Rattle.tally.specs.Demand3.{All, Balanced, StagedKnown, AllRight, Moment, Moments, ClosedRight, Intervals, ClosedBalanced, takenOne}
 use Rattle.tally.specs.Demand3.{takenCalls, takenIn, takenClosed, OtherIs, OthersKept, EachKept, demand3}
 use Rattle.tally.proofs.Balance.{counts-balanced}
 use Rattle.tally.proofs.CallLaws.{limits-kept}
@@ -38,6 +38,7 @@ use Rattle.tally.proofs.Intervals.{reply-right}
 use Rattle.tally.proofs.Invariant.{all-snoc, Inv, orders-most}
 use Rattle.tally.proofs.Places.{samples-differ}
 use Rattle.tally.proofs.Replies.{filled-slots, step-reply}
+use Rattle.tally.proofs.Staged.{none-below, none-right, after-known, after-right}
 use Rattle.tally.proofs.States.{no-slots, no-interval, no-orders}
 use Rattle.tally.proofs.Steps.{effect-staged, step-next}
 
@@ -53,8 +54,8 @@ module _ (t : Tally) (v : Inv t) where
       all-snoc (λ x. inRange x ≡ true) (eventsOf t) e (v .range)
       (all-passed (checksFor t (event tables slots e)) refl (eqb-true _ 0 q) .1 .0)
   after-range (reading counts) q = v .range
-  after-range (line bytes echo) q = v .range
-  after-range (load bytes staging echo) q = v .range
+  after-range (line bytes g m echo) q = v .range
+  after-range (load bytes g m echo) q = v .range
   after-range (close time tables staging slots out) q = tt
   after-range (listing i time tables out) q = v .range
 
@@ -63,6 +64,10 @@ module _ (t : Tally) (v : Inv t) where
   step-inv c y h = record {
     limits = subst (λ w. withinLimits (w .state) ≡ true) (step-next t v c h) (limits-kept (view t) c y places-for-orders (v .limits));
     range = choice (λ u. All (λ e. inRange e ≡ true) (eventsOf u)) (hasEffect c (numberFor t c)) _ _ (after-range c) (λ q. v .range);
+    staged = choice (λ (u : Tally). StagedKnown (u .marks) (u .wrote) (u .addresses .reach)) (hasEffect c (numberFor t c)) _ _ (after-known t v c h)
+        (λ q. v .staged);
+    commit = choice (λ (u : Tally). loadWaitsFor u ≡ true → AllRight (u .wrote) (u .addresses .reach)) (hasEffect c (numberFor t c)) _ _
+        (after-right t v c h) (λ q. v .commit);
   }
 
   moment : Moment t (view t)
@@ -73,6 +78,8 @@ module _ (t : Tally) (v : Inv t) where
     balanced = counts-balanced (t .settings) (t .tables) (eventsOf t);
     filled-are = filled-slots t v;
     samples = samples-differ t v;
+    staged-known = v .staged;
+    commit-right = v .commit;
   }
 
 -- ---- any list of calls
@@ -124,8 +131,8 @@ reply-balanced : (t : Tally) (c : Call) → ClosedBalanced (treply t c)
 unfolding treply
 reply-balanced t (event tables slots e) = tt
 reply-balanced t (reading counts) = tt
-reply-balanced t (line bytes echo) = tt
-reply-balanced t (load bytes staging echo) = tt
+reply-balanced t (line bytes g m echo) = tt
+reply-balanced t (load bytes g m echo) = tt
 reply-balanced t (close time tables staging slots out) =
     choice ClosedBalanced (eqb (numberFor t (close time tables staging slots out)) 0) _ _
     (λ q. counts-balanced (t .settings) (t .tables) (eventsOf t)) (λ q. none-balanced)
@@ -145,10 +152,10 @@ taken-step w (event t s e) =
     decide (eqb (eventNumber (w .state) (length (found t (w .tables))) (length (found s (w .slots))) e) 0)
     (λ q. rw q (omega arith)) (λ q. rw q (omega arith))
 taken-step w (reading counts) = decide (eqb (readingNumber (w .state)) 0) (λ q. rw q (omega arith)) (λ q. rw q (omega arith))
-taken-step w (line bytes echo) =
-    decide (eqb (lineNumber (w .state) bytes (length echo)) 0) (λ q. rw q (omega arith)) (λ q. rw q (omega arith))
-taken-step w (load bytes g echo) =
-    decide (isStaged (packageCallNumber (w .state) bytes (length (found g (w .staging))) (length echo)))
+taken-step w (line bytes g m echo) =
+    decide (eqb (lineNumber (w .state) bytes (found g (w .staging)) (found m (w .marks)) (length echo)) 0) (λ q. rw q (omega arith)) (λ q. rw q (omega arith))
+taken-step w (load bytes g m echo) =
+    decide (isStaged (packageCallNumber (w .state) bytes (length (found g (w .staging))) (length (found m (w .marks))) (length echo)))
     (λ q. rw q (omega arith)) (λ q. rw q (omega arith))
 taken-step w (close time t g s out) =
     let n = closeNumber (w .state) (length (found t (w .tables))) (length (found g (w .staging))) (found s (w .slots)) (length out) in
@@ -175,9 +182,12 @@ others-step w (event t s e) h =
     let n : ℕ = eventNumber (w .state) (length (found t (w .tables))) (length (found s (w .slots))) e in
     other-if s (w .slots) _ (eqb n 0) (λ q. and-right (isOwn t) (isOwn s) (h (effect-staged (event t s e) n q)))
 others-step w (reading counts) h = tt
-others-step w (line bytes echo) h = tt
-others-step w (load bytes g echo) h =
-    other-if g (w .staging) _ (isStaged (packageCallNumber (w .state) bytes (length (found g (w .staging))) (length echo))) h
+others-step w (line bytes g m echo) h = tt
+others-step w (load bytes g m echo) h =
+    let b = isStaged (packageCallNumber (w .state) bytes (length (found g (w .staging))) (length (found m (w .marks))) (length echo)) in (
+      other-if g (w .staging) _ b (λ q. and-left (isOwn g) (isOwn m) (h q)),
+      other-if m (w .marks) _ b (λ q. and-right (isOwn g) (isOwn m) (h q)),
+    )
 others-step w (close time t g s out) h =
     let n : ℕ = closeNumber (w .state) (length (found t (w .tables))) (length (found g (w .staging))) (found s (w .slots)) (length out) in
     let k : eqb n 0 ≡ true → (isOwn t && (isOwn g && isOwn s)) ≡ true = λ q. h (effect-staged (close time t g s out) n q) in (
@@ -192,9 +202,9 @@ others-all (c ∷ cs) w l = (others-step w c (l .1 .0), others-all cs (next w c)
 
 -- ---- a fresh processor
 
-module _ (tables staging : List ℕ) where
+module _ (tables staging marks : List ℕ) where
   abbrev start : Tally
-  start = freshTally tables staging
+  start = freshTally tables staging marks
 
   fresh-state : freshState ≡ viewState start
   unfolding freshState
@@ -206,28 +216,39 @@ module _ (tables staging : List ℕ) where
     staging = freshAddresses;
   }
 
-  pub fresh-view : freshWorld tables staging ≡ view start
+  pub fresh-view : freshWorld tables staging marks ≡ view start
   unfolding view
-  fresh-view = λ i. record { state = fresh-state i; tables = tables; staging = staging; slots = no-slots freshSettings tables i }
+  fresh-view = λ i. record {
+    state = fresh-state i;
+    tables = tables;
+    staging = staging;
+    marks = marks;
+    slots = no-slots freshSettings tables i;
+  }
 
   pub fresh-inv : Inv start
-  fresh-inv = record { limits = subst (λ s. withinLimits s ≡ true) fresh-state fresh-kept; range = tt }
+  fresh-inv = record {
+    limits = subst (λ s. withinLimits s ≡ true) fresh-state fresh-kept;
+    range = tt;
+    staged = none-below marks (λ i. unwritten);
+    commit = λ w. none-right (λ i. unwritten);
+  }
 
 -- the theorem
 pub demand-3 : demand3
 unfolding freshState
-demand-3 tables staging cs l =
-    let t = freshTally tables staging in
-    let e = fresh-view tables staging in
-    let v = fresh-inv tables staging in
+demand-3 tables staging marks cs l =
+    let t = freshTally tables staging marks in
+    let e = fresh-view tables staging marks in
+    let v = fresh-inv tables staging marks in
     let l′ : Lawful (view t) cs = subst (λ w. Lawful w cs) e l in
-    let a : replies (freshWorld tables staging) cs ≡ treplies t cs = ap (λ (w : World). replies w cs) e ∙ all-answers cs t v l′ in
+    let a : replies (freshWorld tables staging marks) cs ≡ treplies t cs = ap (λ (w : World). replies w cs) e ∙ all-answers cs t v l′ in
     record {
       answers = a;
       ending = ap (λ (w : World). after w cs) e ∙ all-ending cs t v l′;
       moments = subst (λ w. Moments t w cs) (sym e) (all-moments cs t v l′);
       intervals = subst (λ w. Intervals t w cs) (sym e) (all-intervals cs t v l′);
       closes = subst (All ClosedBalanced) (sym a) (replies-balanced cs t);
-      events = sym (zero-add _) ∙ taken-all cs (freshWorld tables staging);
-      others = others-all cs (freshWorld tables staging) l;
+      events = sym (zero-add _) ∙ taken-all cs (freshWorld tables staging marks);
+      others = others-all cs (freshWorld tables staging marks) l;
     }

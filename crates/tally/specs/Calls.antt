@@ -43,20 +43,22 @@ isOwn (other x) = false
 pub data Call : Type 0 where
   event : (tables slots : Lent) → Event → Call
   reading : (counts : List ℕ) → Call
-  line : (bytes echo : List ℕ) → Call
-  load : (bytes : List ℕ) (staging : Lent) (echo : List ℕ) → Call
+  line : (bytes : List ℕ) (staging marks : Lent) (echo : List ℕ) → Call
+  load : (bytes : List ℕ) (staging marks : Lent) (echo : List ℕ) → Call
   close : (time : ℕ) (tables staging slots : Lent) (out : List ℕ) → Call
   listing : (i time : ℕ) (tables : Lent) (out : List ℕ) → Call
 
 -- what is returned beside the state: "An answer is all that is returned beside the state"
 pub data Reply : Type 0 where
   answered : (number : ℕ) → Reply
+  lined : (number : ℕ) (echo : List ℕ) (sum : ℕ) → Reply
   echoed : (number : ℕ) (echo : List ℕ) → Reply
   closed : (number taken : ℕ) (counts : Counts) (filled : ℕ) (out : List ℕ) → Reply
   listed : (number : ℕ) (out : List ℕ) → Reply
 
 abbrev pub numberOf : Reply → ℕ
 numberOf (answered n) = n
+numberOf (lined n echo sum) = n
 numberOf (echoed n echo) = n
 numberOf (closed n taken counts filled out) = n
 numberOf (listed n out) = n
@@ -66,11 +68,13 @@ pub record World : Type 0 where
   pub state : State
   pub tables : List ℕ
   pub staging : List ℕ
+  pub marks : List ℕ
   pub slots : List ℕ
 
--- a fresh processor: "counts and slots 0"; tables and staging hold whatever they hold
-abbrev pub freshWorld : (tables staging : List ℕ) → World
-freshWorld tables staging = record { state = freshState; tables = tables; staging = staging; slots = zeros slotCount }
+-- a fresh processor: "counts and slots 0"; tables, staging and marks hold whatever they hold
+abbrev pub freshWorld : (tables staging marks : List ℕ) → World
+freshWorld tables staging marks =
+    record { state = freshState; tables = tables; staging = staging; marks = marks; slots = zeros slotCount }
 
 -- ---- one call: what it makes of the state and of what it is lent
 
@@ -80,11 +84,11 @@ eventIn w t s e = eventDone (w .state) (found t (w .tables)) (found s (w .slots)
 abbrev pub readingIn : World → (counts : List ℕ) → Answer
 readingIn w counts = readingDone (w .state) counts
 
-abbrev pub lineIn : World → (bytes echo : List ℕ) → LineDone
-lineIn w bytes echo = lineDone (w .state) bytes echo
+abbrev pub lineIn : World → (bytes : List ℕ) (staging marks : Lent) (echo : List ℕ) → LineDone
+lineIn w bytes g m echo = lineDone (w .state) bytes (found g (w .staging)) (found m (w .marks)) echo
 
-abbrev pub loadIn : World → (bytes : List ℕ) → Lent → (echo : List ℕ) → PackageDone
-loadIn w bytes g echo = packageDone (w .state) bytes (found g (w .staging)) echo
+abbrev pub loadIn : World → (bytes : List ℕ) (staging marks : Lent) (echo : List ℕ) → PackageDone
+loadIn w bytes g m echo = packageDone (w .state) bytes (found g (w .staging)) (found m (w .marks)) echo
 
 abbrev pub closeIn : World → (time : ℕ) (tables staging slots : Lent) (out : List ℕ) → CloseDone
 closeIn w time t g s out = closeDone (w .state) time (found t (w .tables)) (found g (w .staging)) (found s (w .slots)) out
@@ -98,25 +102,35 @@ next w (event t s e) = record {
   state = eventIn w t s e .answer .state;
   tables = w .tables;
   staging = w .staging;
+  marks = w .marks;
   slots = kept s (w .slots) (eventIn w t s e .slots);
 }
-next w (reading counts) = record { state = readingIn w counts .state; tables = w .tables; staging = w .staging; slots = w .slots }
-next w (line bytes echo) = record {
-  state = lineIn w bytes echo .answer .state;
+next w (reading counts) = record {
+  state = readingIn w counts .state;
   tables = w .tables;
   staging = w .staging;
+  marks = w .marks;
   slots = w .slots;
 }
-next w (load bytes g echo) = record {
-  state = loadIn w bytes g echo .answer .state;
+next w (line bytes g m echo) = record {
+  state = lineIn w bytes g m echo .answer .state;
   tables = w .tables;
-  staging = kept g (w .staging) (loadIn w bytes g echo .staging);
+  staging = w .staging;
+  marks = w .marks;
+  slots = w .slots;
+}
+next w (load bytes g m echo) = record {
+  state = loadIn w bytes g m echo .answer .state;
+  tables = w .tables;
+  staging = kept g (w .staging) (loadIn w bytes g m echo .staging);
+  marks = kept m (w .marks) (loadIn w bytes g m echo .marks);
   slots = w .slots;
 }
 next w (close time t g s out) = record {
   state = closeIn w time t g s out .answer .state;
   tables = kept t (w .tables) (closeIn w time t g s out .tables);
   staging = w .staging;
+  marks = w .marks;
   slots = kept s (w .slots) (closeIn w time t g s out .slots);
 }
 next w (listing i time t out) = w
@@ -128,8 +142,9 @@ closeReply d = closed (d .answer .number) (d .answer .taken) (d .answer .counts)
 unfoldable pub reply : World → Call → Reply
 reply w (event t s e) = answered (eventIn w t s e .answer .number)
 reply w (reading counts) = answered (readingIn w counts .number)
-reply w (line bytes echo) = echoed (lineIn w bytes echo .answer .number) (lineIn w bytes echo .echo)
-reply w (load bytes g echo) = echoed (loadIn w bytes g echo .answer .number) (loadIn w bytes g echo .echo)
+reply w (line bytes g m echo) =
+    lined (lineIn w bytes g m echo .answer .number) (lineIn w bytes g m echo .echo) (lineIn w bytes g m echo .answer .sum)
+reply w (load bytes g m echo) = echoed (loadIn w bytes g m echo .answer .number) (loadIn w bytes g m echo .echo)
 reply w (close time t g s out) = closeReply (closeIn w time t g s out)
 reply w (listing i time t out) = listed (listingIn w i time t out .number) (listingIn w i time t out .out)
 
@@ -143,12 +158,12 @@ unfoldable pub after : World → List Call → World
 after w [] = w
 after w (c ∷ cs) = after (next w c) cs
 
--- whether a call lends only the processor's own tables, staging and slots
+-- whether a call lends only the processor's own tables, staging, marks and slots
 abbrev pub owns : Call → Bool
 owns (event t s e) = isOwn t && isOwn s
 owns (reading counts) = true
-owns (line bytes echo) = true
-owns (load bytes g echo) = isOwn g
+owns (line bytes g m echo) = isOwn g && isOwn m
+owns (load bytes g m echo) = isOwn g && isOwn m
 owns (close time t g s out) = isOwn t && (isOwn g && isOwn s)
 owns (listing i time t out) = isOwn t
 
@@ -156,8 +171,8 @@ owns (listing i time t out) = isOwn t
 abbrev pub Typed : Call → Type 0
 Typed (event t s e) = Unit {0}
 Typed (reading counts) = (length counts ≡ 8) × EachBelow 65536 counts
-Typed (line bytes echo) = Unit {0}
-Typed (load bytes g echo) = Unit {0}
+Typed (line bytes g m echo) = Unit {0}
+Typed (load bytes g m echo) = Unit {0}
 Typed (close time t g s out) = Unit {0}
 Typed (listing i time t out) = Unit {0}
 

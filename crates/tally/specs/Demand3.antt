@@ -14,13 +14,15 @@ use Rattle.sort.specs.declared.event.Event.{Event}
 use Rattle.counts.specs.declared.Counts.{Counts}
 use Rattle.wire.specs.Pieces.{padded}
 use Rattle.samples.specs.Samples.{filled}
+use Rattle.load.specs.Marks.{isBad}
 use Rattle.packet.specs.Packet.{packetBytes}
 use Rattle.state.specs.Limits.{withinLimits}
 use Rattle.output.specs.Output.{samplePackets}
-use Rattle.tally.specs.Calls.{Lent, own, other, Call, event, reading, line, load, close, listing, Reply, answered, echoed}
-use Rattle.tally.specs.Calls.{closed, listed, numberOf, World, freshWorld, eventIn, loadIn, closeIn, next, reply, replies, after, Lawful}
+use Rattle.tally.specs.Calls.{Lent, own, other, Call, event, reading, line, load, close, listing, Reply, answered, lined}
+use Rattle.tally.specs.Calls.{echoed, closed, listed, numberOf, World, freshWorld, eventIn, loadIn, closeIn, next, reply, replies, after, Lawful}
 use Rattle.tally.specs.Events.{isEligible, recordFor}
-use Rattle.tally.specs.Tally.{Tally, freshTally, eventsOf, countsOf, eligibles, ownSlots, tnext, treplies, tafter}
+use Rattle.tally.specs.Tally.{Wrote, unwritten, byRight, isBadly, Tally, freshTally, eventsOf, countsOf, eligibles, ownSlots}
+use Rattle.tally.specs.Tally.{loadWaitsFor, tnext, treplies, tafter}
 use Rattle.tally.specs.View.{view}
 
 -- every element has the property
@@ -68,6 +70,14 @@ pub record Samples (t : Tally) (slots : List ℕ) : Type 0 where
   pub places-many : length places ≡ min slotCount (length (eligibles t))
   pub slots-are : slots ≡ padded slotCount (map (λ i. recordFor (t .settings) (t .tables) (eventAt (eventsOf t) i)) places)
 
+-- ---- the staged bytes
+
+abbrev pub StagedKnown : (marks : List ℕ) (wrote : ℕ → Wrote) (reach : ℕ) → Type 0
+StagedKnown marks wrote reach = (i : ℕ) → i < reach → (wrote i ≢ unwritten) × (isBad marks i ≡ isBadly (wrote i))
+
+abbrev pub AllRight : (wrote : ℕ → Wrote) (reach : ℕ) → Type 0
+AllRight wrote reach = (i : ℕ) → i < reach → wrote i ≡ byRight
+
 -- ---- at every moment: before each call, and at the end
 
 pub record Moment (t : Tally) (w : World) : Type 0 where
@@ -78,6 +88,10 @@ pub record Moment (t : Tally) (w : World) : Type 0 where
   -- as many slots are filled as there are eligible events, up to 704
   pub filled-are : filled (w .slots) ≡ min slotCount (length (eligibles t))
   pub samples : Samples t (w .slots)
+  -- below the reach, every byte was written by a package, and the own marks tell those that are bad
+  pub staged-known : StagedKnown (w .marks) (t .wrote) (w .state .staging .reach)
+  -- while a commit waits, every byte below the reach was last written by a package with a right sum: that is what a close loads
+  pub commit-right : loadWaitsFor t ≡ true → AllRight (t .wrote) (t .addresses .reach)
 
 abbrev pub Moments : Tally → World → List Call → Type 0
 Moments t w [] = Moment t w
@@ -88,6 +102,7 @@ Moments t w (c ∷ cs) = Moment t w × Moments (tnext t c) (next w c) cs
 -- a close that is carried out hands out counts that balance, as the zeros of a refused one do
 abbrev pub ClosedBalanced : Reply → Type 0
 ClosedBalanced (answered n) = Unit {0}
+ClosedBalanced (lined n echo sum) = Unit {0}
 ClosedBalanced (echoed n echo) = Unit {0}
 ClosedBalanced (closed n taken counts filled out) = Balanced taken counts
 ClosedBalanced (listed n out) = Unit {0}
@@ -109,6 +124,7 @@ pub record ClosedInterval (t : Tally) (taken : ℕ) (counts : Counts) (filled : 
 
 abbrev pub ClosedRight : Tally → Reply → Type 0
 ClosedRight t (answered n) = Unit {0}
+ClosedRight t (lined n echo sum) = Unit {0}
 ClosedRight t (echoed n echo) = Unit {0}
 ClosedRight t (closed zero taken counts filled out) = ClosedInterval t taken counts filled out
 ClosedRight t (closed (suc n) taken counts filled out) = Unit {0}
@@ -122,8 +138,8 @@ Intervals t w (c ∷ cs) = ClosedRight t (reply w c) × Intervals (tnext t c) (n
 abbrev pub takenOne : Call → Reply → ℕ
 takenOne (event t s e) r = bitOf (eqb (numberOf r) carriedOut)
 takenOne (reading counts) r = 0
-takenOne (line bytes echo) r = 0
-takenOne (load bytes staging echo) r = 0
+takenOne (line bytes g m echo) r = 0
+takenOne (load bytes g m echo) r = 0
 takenOne (close time t g s out) r = 0
 takenOne (listing i time t out) r = 0
 
@@ -135,6 +151,7 @@ takenCalls (c ∷ cs) (r ∷ rs) = takenOne c r + takenCalls cs rs
 -- what closes handed out
 abbrev pub takenIn : Reply → ℕ
 takenIn (answered n) = 0
+takenIn (lined n echo sum) = 0
 takenIn (echoed n echo) = 0
 takenIn (closed n taken counts filled out) = taken
 takenIn (listed n out) = 0
@@ -153,8 +170,8 @@ OtherIs (other x) after = after ≡ x
 abbrev pub OthersKept : World → Call → Type 0
 OthersKept w (event t s e) = OtherIs s (eventIn w t s e .slots)
 OthersKept w (reading counts) = Unit {0}
-OthersKept w (line bytes echo) = Unit {0}
-OthersKept w (load bytes g echo) = OtherIs g (loadIn w bytes g echo .staging)
+OthersKept w (line bytes g m echo) = Unit {0}
+OthersKept w (load bytes g m echo) = OtherIs g (loadIn w bytes g m echo .staging) × OtherIs m (loadIn w bytes g m echo .marks)
 OthersKept w (close time t g s out) = OtherIs t (closeIn w time t g s out .tables) × OtherIs s (closeIn w time t g s out .slots)
 OthersKept w (listing i time t out) = Unit {0}
 
@@ -164,23 +181,24 @@ EachKept w (c ∷ cs) = OthersKept w c × EachKept (next w c) cs
 
 -- ---- the claim
 
-pub record Demand3 (tables staging : List ℕ) (cs : List Call) : Type 0 where
+pub record Demand3 (tables staging marks : List ℕ) (cs : List Call) : Type 0 where
   -- every answer, with echo and output, is the tally's
-  pub answers : replies (freshWorld tables staging) cs ≡ treplies (freshTally tables staging) cs
+  pub answers : replies (freshWorld tables staging marks) cs ≡ treplies (freshTally tables staging marks) cs
   -- the state and the buffers at the end are the tally's
-  pub ending : after (freshWorld tables staging) cs ≡ view (tafter (freshTally tables staging) cs)
+  pub ending : after (freshWorld tables staging marks) cs ≡ view (tafter (freshTally tables staging marks) cs)
   -- at every moment on the way: limits, balances, samples
-  pub moments : Moments (freshTally tables staging) (freshWorld tables staging) cs
+  pub moments : Moments (freshTally tables staging marks) (freshWorld tables staging marks) cs
   -- every closed interval has the tally's counts and slots
-  pub intervals : Intervals (freshTally tables staging) (freshWorld tables staging) cs
+  pub intervals : Intervals (freshTally tables staging marks) (freshWorld tables staging marks) cs
   -- the balances of every closed interval
-  pub closes : All ClosedBalanced (replies (freshWorld tables staging) cs)
+  pub closes : All ClosedBalanced (replies (freshWorld tables staging marks) cs)
   -- event calls answered 0 are those of the closes and of the open interval
-  pub events : takenCalls cs (replies (freshWorld tables staging) cs)
-      ≡ takenClosed (replies (freshWorld tables staging) cs) + after (freshWorld tables staging) cs .state .interval .taken
+  pub events : takenCalls cs (replies (freshWorld tables staging marks) cs)
+      ≡ takenClosed (replies (freshWorld tables staging marks) cs) + after (freshWorld tables staging marks) cs .state .interval .taken
   -- what is lent besides the own buffers is left as it was
-  pub others : EachKept (freshWorld tables staging) cs
+  pub others : EachKept (freshWorld tables staging marks) cs
 
--- for every initial tables and staging, and every lawful list of calls
+-- for every initial tables, staging and marks, and every lawful list of calls
 abbrev pub demand3 : Type 0
-demand3 = (tables staging : List ℕ) (cs : List Call) → Lawful (freshWorld tables staging) cs → Demand3 tables staging cs
+demand3 =
+    (tables staging marks : List ℕ) (cs : List Call) → Lawful (freshWorld tables staging marks) cs → Demand3 tables staging marks cs

@@ -1,6 +1,6 @@
 -- The tally (document 01, "The tally of demand 3"): it works from the calls' arguments, and keeps the interval's events; every count,
 -- the samples and the packets are worked out from them. Assumes nothing.
-use mathlib.Core.Bool.{Bool, _&&_, not, cond}
+use mathlib.Core.Bool.{Bool, true, false, _&&_, not, cond}
 use mathlib.Core.List.{List, [], _∷_, _++_, map}
 use Prim.Native.Nat.{ℕ, _+_, _%_, min}
 use lib.Dec.{eqb, leb, ltb}
@@ -9,7 +9,7 @@ use Rattle.causes.specs.Causes as cause
 use Rattle.causes.specs.Checks.{Check, numberBy}
 use Rattle.wire.specs.Bytes.{total}
 use Rattle.wire.specs.Lists.{all}
-use Rattle.wire.specs.Pieces.{table}
+use Rattle.wire.specs.Pieces.{table, each}
 use Rattle.settings.specs.declared.Settings.{Settings}
 use Rattle.settings.specs.Settings.{slotCount, freshSettings}
 use Rattle.tables.specs.Tables.{tableBytes}
@@ -20,21 +20,24 @@ use Rattle.counts.specs.declared.Counts.{Counts}
 use Rattle.packet.specs.Packet.{packetBytes}
 use Rattle.listing_packet.specs.Listing.{listingPackets, listingPacket}
 use Rattle.load.specs.declared.staging.Addresses.{Addresses}
-use Rattle.load.specs.Staging.{stagingBytes, packageChecks, stagingAfter, addressesAfter, freshAddresses}
+use Rattle.load.specs.Marks.{marksBytes, marksAfter, noneBad, stagedSum}
+use Rattle.load.specs.Staging.{stagingBytes, payloadBytes, receivedSum, computedSum, packageChecks, stagingAfter, addressesAfter}
+use Rattle.load.specs.Staging.{freshAddresses}
+use Rattle.command.specs.declared.command.Command.the-variants.{Load}
 use Rattle.command.specs.declared.command.Line.{Line}
-use Rattle.command.specs.declared.command.Line.the-variants.{Empty, Wrong, Waits, LoadZero, LoadAt}
+use Rattle.command.specs.declared.command.Line.the-variants.{Empty, Wrong, Waits, LoadZero, LoadAt, Ask, Commit}
 use Rattle.echo.specs.Echo.{echoBytes, refusedEcho}
 use Rattle.command.specs.Grammar.{bytesOk, lineOf}
 use Rattle.orders.specs.declared.Waiting.{Waiting}
 use Rattle.orders.specs.Orders.{mostCommands, loadsIn}
 use Rattle.orders.specs.Run.{settingsAfterAll, tablesAfterAll, addressesAfterAll}
 use Rattle.state.specs.Interval.{mostEvents, mostReadings, noCounts}
-use Rattle.accepted_line.specs.Told.{commandChecks, addressesTold, toldEcho}
+use Rattle.accepted_line.specs.Told.{commandChecks, sumTold, addressesTold, toldEcho}
 use Rattle.processor.specs.Line.{echoBy}
 use Rattle.processor.specs.Package.{isStaged, stagedEcho}
 use Rattle.output.specs.Output.{outBytes, packetsOf}
-use Rattle.tally.specs.Calls.{Lent, found, Call, event, reading, line, load, close, listing, Reply, answered, echoed, closed}
-use Rattle.tally.specs.Calls.{listed}
+use Rattle.tally.specs.Calls.{Lent, own, other, found, Call, event, reading, line, load, close, listing, Reply, answered, lined}
+use Rattle.tally.specs.Calls.{echoed, closed, listed}
 use Rattle.tally.specs.Events.{countsBy, eligiblesBy, slotsBy}
 
 -- "waiting commands, how many were accepted"
@@ -47,12 +50,27 @@ pub record Gathered : Type 0 where
   pub events : List Event
   pub readings : List (List ℕ)
 
+-- which package wrote a staged byte last: none, one with a right sum, or one with a wrong sum
+pub data Wrote : Type 0 where
+  unwritten : Wrote
+  byRight : Wrote
+  byWrong : Wrote
+
+-- document 02, Point 4: a byte that "was last written by a package with a wrong sum"
+abbrev pub isBadly : Wrote → Bool
+isBadly unwritten = false
+isBadly byRight = false
+isBadly byWrong = true
+
 -- "It keeps tables and staging .., next address, reach, settings, waiting commands, how many were accepted, readings, and the
--- interval's events in order", and how many closes there were
+-- interval's events in order", and how many closes there were; document 02, Point 4: "the tally keeping which staged bytes are bad", by
+-- the packages alone. Of the lent marks it keeps what they hold, and judges by their length alone
 pub record Tally : Type 0 where
   pub closes : ℕ
   pub tables : List ℕ
   pub staging : List ℕ
+  pub marks : List ℕ
+  pub wrote : (i : ℕ) → Wrote
   pub addresses : Addresses
   pub settings : Settings
   pub told : Told
@@ -65,11 +83,13 @@ abbrev pub noneGathered : Gathered
 noneGathered = record { events = []; readings = [] }
 
 -- "(at first whatever bytes the lent ones hold) .. the rest starts as Fresh says"
-abbrev pub freshTally : (tables staging : List ℕ) → Tally
-freshTally tables staging = record {
+abbrev pub freshTally : (tables staging marks : List ℕ) → Tally
+freshTally tables staging marks = record {
   closes = 0;
   tables = tables;
   staging = staging;
+  marks = marks;
+  wrote = λ i. unwritten;
   addresses = freshAddresses;
   settings = freshSettings;
   told = noneTold;
@@ -108,6 +128,9 @@ lentTables t l = found l (t .tables)
 abbrev pub lentStaging : Tally → Lent → List ℕ
 lentStaging t l = found l (t .staging)
 
+abbrev pub lentMarks : Tally → Lent → List ℕ
+lentMarks t l = found l (t .marks)
+
 abbrev pub lentSlots : Tally → Lent → List ℕ
 lentSlots t l = found l (ownSlots t)
 
@@ -120,6 +143,17 @@ fullFor t = leb mostCommands (t .told .accepted)
 abbrev pub lineFor : Tally → (bytes : List ℕ) → Line
 lineFor t bytes = lineOf bytes (t .addresses .reach)
 
+-- no byte below the reach was last written by a package with a wrong sum; of other marks than the own it is as they say
+abbrev pub noneWrong : (wrote : ℕ → Wrote) (reach : ℕ) → Bool
+noneWrong wrote reach = each reach (λ i. not (isBadly (wrote i)))
+
+abbrev pub goodFor : Tally → Lent → Bool
+goodFor t own = noneWrong (t .wrote) (t .addresses .reach)
+goodFor t (other x) = noneBad x (t .addresses .reach)
+
+abbrev pub sumFor : Tally → Lent → ℕ
+sumFor t l = stagedSum (lentStaging t l) (t .addresses .reach)
+
 abbrev pub checksFor : Tally → Call → List Check
 checksFor t (event tables slots e) =
     (eqb (length (lentTables t tables)) tableBytes && eqb (length (lentSlots t slots)) slotCount, cause.bufferOrState)
@@ -127,12 +161,16 @@ checksFor t (event tables slots e) =
     ∷ (ltb (length (eventsOf t)) mostEvents, cause.intervalFull)
     ∷ []
 checksFor t (reading counts) = (ltb (length (t .gathered .readings)) mostReadings, cause.intervalFull) ∷ []
-checksFor t (line bytes echo) =
-    (eqb (length echo) echoBytes, cause.bufferOrState)
+checksFor t (line bytes staging marks echo) = (
+  eqb (length (lentStaging t staging)) stagingBytes && eqb (length (lentMarks t marks)) marksBytes && eqb (length echo) echoBytes,
+  cause.bufferOrState,
+)
     ∷ (bytesOk bytes, cause.lineBytes)
-    ∷ commandChecks (loadWaitsFor t) (fullFor t) (lineFor t bytes)
-checksFor t (load bytes staging echo) =
-    (eqb (length (lentStaging t staging)) stagingBytes && eqb (length echo) echoBytes, cause.bufferOrState)
+    ∷ commandChecks (loadWaitsFor t) (fullFor t) (goodFor t marks) (sumFor t staging) (lineFor t bytes)
+checksFor t (load bytes staging marks echo) = (
+  eqb (length (lentStaging t staging)) stagingBytes && eqb (length (lentMarks t marks)) marksBytes && eqb (length echo) echoBytes,
+  cause.bufferOrState,
+)
     ∷ (not (loadWaitsFor t), cause.loadWaits)
     ∷ packageChecks bytes (t .addresses .next)
 checksFor t (close time tables staging slots out) = (
@@ -156,6 +194,8 @@ withGathered t g = record {
   closes = t .closes;
   tables = t .tables;
   staging = t .staging;
+  marks = t .marks;
+  wrote = t .wrote;
   addresses = t .addresses;
   settings = t .settings;
   told = t .told;
@@ -167,6 +207,8 @@ withTold t o a = record {
   closes = t .closes;
   tables = t .tables;
   staging = t .staging;
+  marks = t .marks;
+  wrote = t .wrote;
   addresses = a;
   settings = t .settings;
   told = o;
@@ -191,9 +233,19 @@ toldBy o Wrong = o
 toldBy o (Waits c) = oneMore o (o .waiting ++ record { command = c } ∷ [])
 toldBy o LoadZero = oneMore o (o .waiting)
 toldBy o (LoadAt a) = oneMore o (o .waiting)
+toldBy o Ask = oneMore o (o .waiting)
+toldBy o (Commit a y n) = oneMore o (o .waiting ++ record { command = Load a y } ∷ [])
 
 abbrev pub heard : Tally → Line → Tally
 heard t l = withTold t (toldBy (t .told) l) (addressesTold (t .addresses) l)
+
+-- a package's bytes were last written by it
+abbrev pub byIts : (right : Bool) → Wrote
+byIts r = cond r byRight byWrong
+
+-- those that n bytes from `next` on were written by, and the others as before
+abbrev pub wroteAfter : (wrote : ℕ → Wrote) (next n : ℕ) → Wrote → (i : ℕ) → Wrote
+wroteAfter wrote next n by i = cond (leb next i && ltb i (next + n)) by (wrote i)
 
 -- "Package: placed"
 abbrev pub staged : Tally → List ℕ → Tally
@@ -201,6 +253,8 @@ staged t bytes = record {
   closes = t .closes;
   tables = t .tables;
   staging = stagingAfter (t .staging) (t .addresses .next) bytes;
+  marks = marksAfter (t .marks) (t .addresses .next) (payloadBytes bytes) (not (eqb (receivedSum bytes) (computedSum bytes)));
+  wrote = wroteAfter (t .wrote) (t .addresses .next) (payloadBytes bytes) (byIts (eqb (receivedSum bytes) (computedSum bytes)));
   addresses = addressesAfter (t .addresses) bytes;
   settings = t .settings;
   told = t .told;
@@ -213,6 +267,8 @@ ended t = record {
   closes = t .closes + 1;
   tables = tablesAfterAll (t .tables) (t .staging) (t .addresses .reach) (t .told .waiting);
   staging = t .staging;
+  marks = t .marks;
+  wrote = t .wrote;
   addresses = addressesAfterAll (t .addresses) (t .told .waiting);
   settings = settingsAfterAll (t .settings) (t .told .waiting);
   told = noneTold;
@@ -223,8 +279,8 @@ ended t = record {
 abbrev pub afterCall : Tally → Call → Tally
 afterCall t (event tables slots e) = joined t e
 afterCall t (reading counts) = read t counts
-afterCall t (line bytes echo) = heard t (lineFor t bytes)
-afterCall t (load bytes staging echo) = staged t bytes
+afterCall t (line bytes staging marks echo) = heard t (lineFor t bytes)
+afterCall t (load bytes staging marks echo) = staged t bytes
 afterCall t (close time tables staging slots out) = ended t
 afterCall t (listing i time tables out) = t
 
@@ -232,8 +288,8 @@ afterCall t (listing i time tables out) = t
 abbrev pub hasEffect : Call → (number : ℕ) → Bool
 hasEffect (event tables slots e) n = eqb n cause.carriedOut
 hasEffect (reading counts) n = eqb n cause.carriedOut
-hasEffect (line bytes echo) n = eqb n cause.carriedOut
-hasEffect (load bytes staging echo) n = isStaged n
+hasEffect (line bytes staging marks echo) n = eqb n cause.carriedOut
+hasEffect (load bytes staging marks echo) n = isStaged n
 hasEffect (close time tables staging slots out) n = eqb n cause.carriedOut
 hasEffect (listing i time tables out) n = eqb n cause.carriedOut
 
@@ -251,8 +307,10 @@ closedReply t time =
 abbrev pub replyBy : (number : ℕ) → Tally → Call → Reply
 replyBy n t (event tables slots e) = answered n
 replyBy n t (reading counts) = answered n
-replyBy n t (line bytes echo) = echoed n (echoBy n (toldEcho (frameOf t) (t .told .accepted) bytes) (refusedEcho bytes) echo)
-replyBy n t (load bytes staging echo) = echoed n (cond (isStaged n) (stagedEcho n (t .addresses .next) bytes) echo)
+replyBy n t (line bytes staging marks echo) =
+    lined n (echoBy n (toldEcho (frameOf t) (t .told .accepted) bytes) (refusedEcho bytes) echo)
+    (cond (eqb n cause.carriedOut) (sumTold (lineFor t bytes) (sumFor t staging)) 0)
+replyBy n t (load bytes staging marks echo) = echoed n (cond (isStaged n) (stagedEcho n (t .addresses .next) bytes) echo)
 replyBy n t (close time tables staging slots out) = cond (eqb n cause.carriedOut) (closedReply t time) (closed n 0 noCounts 0 out)
 replyBy n t (listing i time tables out) = listed n (cond (eqb n cause.carriedOut) (listingPacket (frameOf t) time i (t .tables)) out)
 

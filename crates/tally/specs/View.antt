@@ -29,4 +29,4 @@ viewState t = record {
 }
 
 unfoldable pub view : Tally → World
-view t = record { state = viewState t; tables = t .tables; staging = t .staging; slots = ownSlots t }
+view t = record { state = viewState t; tables = t .tables; staging = t .staging; marks = t .marks; slots = ownSlots t }

@@ -160,6 +160,11 @@ module _ (p : ℕ → Bool) where
   each-all zero h = refl
   each-all (suc n) h = rw (each-all n (λ i l. h i (omega arith)), h n (omega arith))
 
+pub each-same : (n : ℕ) (p q : ℕ → Bool) → ((i : ℕ) → i < n → p i ≡ q i) → each n p ≡ each n q
+unfolding each
+each-same zero p q h = refl
+each-same (suc n) p q h = λ k. each-same n p q (λ i l. h i (omega arith)) k && h n (omega arith) k
+
 -- ---- how many pass a test
 
 pub count-same : (n : ℕ) (p q : ℕ → Bool) → ((i : ℕ) → i < n → p i ≡ q i) → countOf n p ≡ countOf n q

@@ -1,12 +1,12 @@
 //! Gives the processor calls states at each limit and one beyond, buffers of the right length
-//! and one off, and slots of odd boxes, and the gatherer buffers one off: one line a case, its
-//! name and the numbers answered.
+//! and one off, and slots of odd boxes, and the gatherer buffers one off; asks and commits over
+//! staged bytes, good and bad: one line a case, its name and the numbers answered.
 
 use reference::causes::Number;
 use reference::commands::{Settings, ECHO_BYTES};
 use reference::gatherer::Gatherer;
 use reference::limits::*;
-use reference::loads::{Addresses, STAGING_BYTES};
+use reference::loads::{Addresses, MARK_BYTES, STAGING_BYTES};
 use reference::packets::{OUTPUT_BYTES, PACKET_BYTES};
 use reference::samples::{Samples, SLOTS};
 use reference::sorting::{Counts, Event, VALID_STOP};
@@ -21,6 +21,7 @@ const EMPTY_PACKAGE: [u8; 4] = [0, 2, 0, 0];
 struct Lent {
     tables: Vec<u8>,
     staging: Vec<u8>,
+    marks: Vec<u8>,
     slots: Vec<u32>,
     echo: Vec<u8>,
     output: Vec<u8>,
@@ -33,6 +34,7 @@ impl Lent {
         Lent {
             tables: vec![0; TABLE_BYTES],
             staging: vec![0; STAGING_BYTES],
+            marks: vec![0; MARK_BYTES],
             slots: vec![0; SLOTS],
             echo: vec![0; ECHO_BYTES],
             output: vec![0; OUTPUT_BYTES],
@@ -45,11 +47,11 @@ impl Lent {
     }
 
     fn line(mut self, s: &State, bytes: &[u8]) -> Number {
-        line(s, bytes, &mut self.echo)
+        line(s, bytes, &self.staging, &self.marks, &mut self.echo)
     }
 
     fn package(mut self, s: &State, bytes: &[u8]) -> Number {
-        package(s, bytes, &mut self.staging, &mut self.echo)
+        package(s, bytes, &mut self.staging, &mut self.marks, &mut self.echo)
     }
 
     fn close(mut self, s: &State) -> Number {
@@ -223,7 +225,7 @@ fn loads() {
         (0, 0, 1),
         (u32::MAX, 0, 1),
     ] {
-        let waiting = vec![Waiting::Load(a, y)];
+        let waiting = vec![Waiting::Commit(a, y)];
         let addresses = Addresses { next: 0, reach };
         let name = format!("load-{a:x}-{y}-reach-{reach}");
         all(&name, &State { accepted: 1, waiting, addresses, ..fresh() });
@@ -231,10 +233,10 @@ fn loads() {
     for (name, last) in [
         ("one-load-and-hv-1", Waiting::Set("hv", 1)),
         ("one-load-and-hv-2", Waiting::Set("hv", 2)),
-        ("two-loads", Waiting::Load(0xC202, 0)),
+        ("two-loads", Waiting::Commit(0xC202, 0)),
     ] {
         let mut waiting = vec![Waiting::Set("limhi", 0); 32];
-        waiting[15] = Waiting::Load(0x7000, 0);
+        waiting[15] = Waiting::Commit(0x7000, 0);
         waiting[31] = last;
         let addresses = Addresses { next: 0, reach: 3 };
         all(name, &State { accepted: 32, waiting, addresses, ..fresh() });
@@ -245,6 +247,7 @@ fn lengths() {
     let (s, right) = (&fresh(), Lent::right());
     let tables = [0, 62_984, 62_986].map(|n| (n, Lent { tables: vec![0; n], ..right.clone() }));
     let staging = [0, 62_984, 62_986].map(|n| (n, Lent { staging: vec![0; n], ..right.clone() }));
+    let marks = [0, 7_873, 7_875].map(|n| (n, Lent { marks: vec![0; n], ..right.clone() }));
     let slots = [0, 703, 705].map(|n| (n, Lent { slots: vec![0; n], ..right.clone() }));
     let echoes = [0, 127, 129].map(|n| (n, Lent { echo: vec![0; n], ..right.clone() }));
     let outputs = [0, 3_535, 3_537].map(|n| (n, Lent { output: vec![0; n], ..right.clone() }));
@@ -258,6 +261,9 @@ fn lengths() {
     each("line-echo", &echoes, |lent| lent.line(s, b"hv 1"));
     each("package-echo", &echoes, |lent| lent.package(s, &EMPTY_PACKAGE));
     each("close-output", &outputs, |lent| lent.close(s));
+    each("line-staging", &staging, |lent| lent.line(s, b"hv 1"));
+    each("line-marks", &marks, |lent| lent.line(s, b"hv 1"));
+    each("package-marks", &marks, |lent| lent.package(s, &EMPTY_PACKAGE));
     each("listing-tables", &tables, |lent| lent.listing(s, 0));
     each("listing-out", &outs, |lent| lent.listing(s, 0));
     each("gather-tables", &tables, |lent| lent.gather(&listing_packet()));
@@ -278,20 +284,25 @@ fn each(name: &str, cases: &[(usize, Lent)], call: impl Fn(Lent) -> Number) {
 
 /// Calls that another cause refuses too, and then with the right buffers.
 fn lowest() {
-    let (s, right) = (&fresh(), Lent::right());
-    let wrong =
-        Lent { slots: vec![0; 703], echo: vec![0; 127], staging: vec![0; 62_984], ..right.clone() };
-    let beyond = Event { t: 512, ..EVENT };
-    for (lent, slots, echo, staging) in
-        [(wrong, "-slots-703", "-echo-127", "-staging-62984"), (right, "", "", "")]
-    {
-        println!("event-t-512{slots} {}", lent.clone().event(s, &beyond));
-        println!("line-of-byte-9{echo} {}", lent.clone().line(s, &[9]));
-        println!("line-hv-2{echo} {}", lent.clone().line(s, b"hv 2"));
-        println!("empty-line{echo} {}", lent.clone().line(s, b""));
-        println!("package-of-no-byte{staging} {}", lent.package(s, b""));
-    }
+    let right = Lent::right();
+    let slots = Lent { slots: vec![0; 703], ..right.clone() };
+    let echo = Lent { echo: vec![0; 127], ..right.clone() };
+    let staging = Lent { staging: vec![0; 62_984], ..right.clone() };
+    lowest_of([(&slots, "-slots-703"), (&echo, "-echo-127"), (&staging, "-staging-62984")]);
+    lowest_of([(&right, ""); 3]);
     lowest_of_listing();
+}
+
+/// An event's call with the first of these buffers, lines with the second, a package with the third.
+fn lowest_of([event, line, package]: [(&Lent, &str); 3]) {
+    let s = &fresh();
+    println!("event-t-512{} {}", event.1, event.0.clone().event(s, &Event { t: 512, ..EVENT }));
+    let lines: [(&str, &[u8]); 3] =
+        [("line-of-byte-9", &[9]), ("line-hv-2", b"hv 2"), ("empty-line", b"")];
+    for (name, bytes) in lines {
+        println!("{name}{} {}", line.1, line.0.clone().line(s, bytes));
+    }
+    println!("package-of-no-byte{} {}", package.1, package.0.clone().package(s, b""));
 }
 
 /// The same for listing packets, written and gathered.
@@ -328,6 +339,60 @@ fn slot(name: &str, at: usize, record: u32) {
     println!("{name} {} {}", lent.clone().event(&fresh(), &EVENT), lent.close(&fresh()));
 }
 
+/// Staging of bytes 255 alone: the sum of 10 is 2,550, 9f6 hex, that of all 16,061,175, f512f7.
+fn staged(bad: &[usize]) -> Lent {
+    let mut lent = Lent { staging: vec![255; STAGING_BYTES], ..Lent::right() };
+    bad.iter().for_each(|i| lent.marks[i / 8] |= 1 << (i % 8));
+    lent
+}
+
+fn reaching(reach: usize) -> State {
+    State { addresses: Addresses { next: 0, reach }, ..fresh() }
+}
+
+/// Lines for one state and what is lent, each named by its words.
+fn lines(name: &str, s: &State, lent: &Lent, lines: &[&str]) {
+    for line in lines {
+        println!("{name}-{} {}", line.replace(' ', "-"), lent.clone().line(s, line.as_bytes()));
+    }
+}
+
+/// Asks and commits by what is staged: 5, 15 and 16.
+fn asks() {
+    let good = staged(&[]);
+    lines("reach-0", &reaching(0), &good, &["ask 7000 0", "commit 7000 0 0"]);
+    let ten = ["ask 7000 0", "commit 7000 0 9f6", "commit 7000 0 9f7", "commit 7000 0 9f5"];
+    lines("reach-10", &reaching(10), &good, &ten);
+    lines("reach-10", &reaching(10), &good, &["commit 7000 0 0", "load 7000 0"]);
+    let all = ["ask 7000 0", "commit 7000 0 f512f7", "commit 7000 0 f512f8", "commit 7000 0 f512f6"];
+    lines("reach-62985", &reaching(62_985), &good, &all);
+    // A mark at the reach or beyond it says nothing, nor do those that no staged byte has.
+    for i in [0, 9, 10] {
+        lines(&format!("bad-{i}-reach-10"), &reaching(10), &staged(&[i]), &ten[..3]);
+    }
+    let beyond: Vec<usize> = (10..8 * MARK_BYTES).collect();
+    lines("bad-from-10-on-reach-10", &reaching(10), &staged(&beyond), &ten[..3]);
+    for i in [62_984, 62_985, 62_991] {
+        lines(&format!("bad-{i}-reach-62985"), &reaching(62_985), &staged(&[i]), &all[..3]);
+    }
+}
+
+/// 6, 7 and the order of 5, 6, 7, 15 and 16.
+fn asks_in_order() {
+    let waits = State { accepted: 1, waiting: vec![Waiting::Commit(0x7000, 0)], ..reaching(10) };
+    let accepted = |accepted| State { accepted, ..reaching(10) };
+    let both = State { accepted: 32, ..waits.clone() };
+    let ten = ["ask 7000 0", "commit 7000 0 9f6", "commit 7000 0 9f7"];
+    let states =
+        [("load-waits", &waits), ("accepted-31", &accepted(31)), ("accepted-32", &accepted(32))];
+    for (name, s) in states.into_iter().chain([("load-waits-accepted-32", &both)]) {
+        lines(name, s, &staged(&[]), &ten);
+        lines(&format!("{name}-bad-0"), s, &staged(&[0]), &ten);
+        lines(name, s, &staged(&[]), &["load 0", "loadat a", "ask 6fff 0", "commit 6fff 0 9f6"]);
+        println!("{name}-package {}", staged(&[]).package(s, &PACKAGE));
+    }
+}
+
 fn main() {
     event_counts();
     slot_uses();
@@ -338,4 +403,6 @@ fn main() {
     lengths();
     lowest();
     slots();
+    asks();
+    asks_in_order();
 }

@@ -2,6 +2,7 @@
 //! and calls that are right and wrong in every way the papers name. The same seed
 //! gives the same bytes on every machine.
 
+pub mod commits;
 pub mod damage;
 pub mod flight;
 pub mod lines;

@@ -1,13 +1,10 @@
 //! What happens in a stream: short stories, told in random order.
 
 use crate::calls::{self, Call, Form};
-use crate::generate::stream::offsets;
-use crate::generate::{damage, flight, lines, wild, Random, Stream};
-use crate::loads::STAGING_BYTES;
+use crate::generate::{damage, flight, lines, Stream};
 use crate::processor::{MOST_COMMANDS, MOST_EVENTS, MOST_READINGS};
 use crate::samples::SLOTS;
 use crate::sorting::Event;
-use crate::tables::{KHI, TABLE_BYTES};
 
 impl Stream {
     /// Tells stories until there are this many calls more, the last one a close.
@@ -28,12 +25,12 @@ impl Stream {
     }
 
     fn story(&mut self) {
-        match self.random.below(110) {
+        match self.random.below(116) {
             0..=29 => self.events_up_to(30),
             30..=36 => self.readings_up_to(4),
             37..=51 => self.lines_up_to(6),
             52..=58 => self.packages_up_to(3),
-            59..=67 => self.load(),
+            59..=67 => self.commit(),
             68..=78 => self.close_and_read(),
             79..=88 => self.damaged_packets(),
             89 => self.readings_to_the_end(),
@@ -45,6 +42,7 @@ impl Stream {
             99 => self.settings(),
             100..=103 => self.listings_up_to(8),
             104..=108 => self.gather_some(),
+            109..=114 => self.overlapping_packages(),
             _ => self.gather_all(),
         }
     }
@@ -88,7 +86,7 @@ impl Stream {
         }
     }
 
-    fn events_up_to(&mut self, most: usize) {
+    pub fn events_up_to(&mut self, most: usize) {
         for _ in 0..=self.random.below(most) {
             let wrong = self.random.percent(3);
             let event = if wrong { self.wrong_event() } else { self.any_event() };
@@ -194,26 +192,13 @@ impl Stream {
 
     // Lines.
 
-    /// A line made for the present reach.
-    fn line_of(&mut self, make: fn(&mut Random, usize) -> Vec<u8>) {
-        let reach = self.reach();
-        let line = make(&mut self.random, reach);
-        self.line(line);
-    }
-
-    /// loadat, sometimes with one byte too many.
-    fn loadat(&mut self) {
-        let reach = self.reach();
-        let address = self.random.below(reach + 2);
-        self.line(format!("loadat {address:x}"));
-    }
-
     fn lines_up_to(&mut self, most: usize) {
         (0..=self.random.below(most)).for_each(|_| self.line_of(lines::any));
     }
 
     /// 32 commands in a frame, and more lines after them.
     fn commands_to_the_end(&mut self) {
+        self.small_package();
         for _ in 0..2 * MOST_COMMANDS {
             if self.station.processor.accepted == MOST_COMMANDS {
                 break;
@@ -221,6 +206,7 @@ impl Stream {
             self.line_of(lines::right);
         }
         self.lines_up_to(6);
+        self.asks_and_commits();
         self.line("");
     }
 
@@ -231,183 +217,6 @@ impl Stream {
             self.line(format!("{keyword} {value}"));
         }
         self.close();
-    }
-
-    // Packages and loads.
-
-    /// A right package of some bytes, or one with a wrong sum.
-    fn small_package(&mut self) {
-        let random = &mut self.random;
-        let length = match random.below(8) {
-            0 => 0,
-            1 => 300, // sums over 65,536
-            _ => random.between(1, 40) as usize,
-        };
-        let bytes = if length == 300 { vec![255; length] } else { random.bytes(length) };
-        let error = if random.percent(15) { random.pick(&[1, 255, 256, 65_535]) } else { 0 };
-        self.package(&bytes, error);
-    }
-
-    /// A package with no N, N below 2, or N not matching the bytes.
-    fn wrong_package(&mut self) {
-        let random = &mut self.random;
-        let length = random.below(12);
-        let body = random.bytes(length);
-        let n = body.len() as i64 + random.pick(&[-1, 1, 2, 256]);
-        let mut package = match random.below(6) {
-            0 => Vec::new(),
-            1 => vec![random.below(2) as u8],
-            2 => vec![0, random.below(3) as u8],
-            3 => vec![0, 1, random.byte()],
-            4 => vec![0, 2, 0],
-            _ => (n.max(0) as u16).to_be_bytes().to_vec(),
-        };
-        if package.len() == 2 && random.percent(70) {
-            package.extend(body);
-        }
-        self.call(Call::Package(package));
-    }
-
-    fn packages_up_to(&mut self, most: usize) {
-        for _ in 0..=self.random.below(most) {
-            if self.random.percent(60) {
-                self.small_package();
-            } else {
-                self.wrong_package();
-            }
-        }
-    }
-
-    /// Packages, a load of them, and whatever comes while it waits.
-    fn load(&mut self) {
-        if self.random.percent(70) {
-            self.line("load 0");
-        }
-        for _ in 0..=self.random.below(4) {
-            self.small_package();
-            if self.random.percent(30) {
-                self.loadat();
-            }
-        }
-        self.line_of(lines::load);
-        self.while_a_load_waits();
-        self.events_up_to(15);
-        self.close();
-        self.events_up_to(30);
-    }
-
-    fn while_a_load_waits(&mut self) {
-        for _ in 0..self.random.below(7) {
-            match self.random.below(6) {
-                0 => self.small_package(),
-                1 => self.wrong_package(),
-                2 => self.line("load 0"),
-                3 => self.loadat(),
-                4 => self.line_of(lines::load),
-                _ => self.line_of(lines::any),
-            }
-        }
-    }
-
-    /// A load of Khi, Klo and Ktof: those the tables were made with, each shifted.
-    fn send_offsets(&mut self, shifts: &[i32]) {
-        self.settle();
-        self.line("load 0");
-        let mut words = Vec::new();
-        for offset in self.offsets {
-            let word = offset + self.random.pick(shifts);
-            words.extend(&word.clamp(0, 0xFF_FFFF).to_be_bytes()[1..]);
-        }
-        self.package(&words, 0);
-        self.line(format!("load {KHI:x} 0"));
-    }
-
-    /// Moves all columns a little, or back.
-    fn new_offsets(&mut self) {
-        self.send_offsets(&[0, 0, 1, -1, 3_584, -3_584, 70_000, -70_000]);
-        self.events_up_to(20);
-        self.close();
-        self.events_up_to(40);
-    }
-
-    /// Closes if a load waits, since only then packages are taken.
-    fn settle(&mut self) {
-        if self.station.processor.load_waits || self.station.processor.accepted > 20 {
-            self.close();
-        }
-    }
-
-    /// Fills staging to its last byte with tables a little changed; lines and packages at
-    /// that bound.
-    fn staging_to_the_end(&mut self) {
-        self.settle();
-        self.line("load 0");
-        let mut bytes = self.station.tables.clone();
-        for _ in 0..20 {
-            let at = self.random.below(TABLE_BYTES);
-            bytes[at] = self.random.byte();
-        }
-        if self.random.percent(30) {
-            bytes.push(0);
-            self.package(&bytes, 0); // one byte too many
-            bytes.pop();
-        }
-        let most = STAGING_BYTES as i64;
-        let split = self.random.pick(&[0, 1, most - 1, most]) as usize;
-        self.package(&bytes[..split], 0);
-        self.package(&bytes[split..], 0);
-        for _ in 0..self.random.between(3, 9) {
-            match self.random.below(9) {
-                0 => self.package(&[], 0),
-                1 => self.package(&[], 1),
-                2 => self.package(&[7], 0),
-                3 => self.line(format!("loadat {:x}", STAGING_BYTES + 1)),
-                4 => self.line("load 7001 0"),
-                5 => self.line("load 7000 1"),
-                6 => self.line("load 7000 2"),
-                _ => {
-                    let back = self.random.below(4);
-                    self.line(format!("loadat {:x}", STAGING_BYTES - back));
-                    let length = self.random.below(5);
-                    let end = &bytes[STAGING_BYTES - length..];
-                    self.package(end, 0);
-                }
-            }
-        }
-        if self.random.percent(70) {
-            self.line("load 7000 0");
-            self.while_a_load_waits();
-            self.close();
-        }
-        self.events_up_to(40);
-    }
-
-    /// Loads other tables as an operator would: packages one after the other, one that
-    /// failed sent again, and a load of them all.
-    fn new_tables(&mut self) {
-        self.settle();
-        let (tables, aimed) = if self.random.percent(50) {
-            (flight::tables(), Vec::new())
-        } else {
-            wild::tables(&mut self.random)
-        };
-        self.line("load 0");
-        let size = self.random.pick(&[4_096, 10_000, 30_000]);
-        for part in tables.chunks(size) {
-            let address = self.station.processor.addresses.next;
-            if self.random.percent(10) {
-                self.package(part, 1);
-                self.line(format!("loadat {address:x}"));
-            }
-            self.package(part, 0);
-        }
-        self.line("load 7000 0");
-        self.while_a_load_waits();
-        self.events_up_to(30);
-        self.close();
-        self.offsets = offsets(&tables);
-        self.aimed = aimed;
-        self.events_up_to(40);
     }
 
     // Packets.

@@ -106,8 +106,4 @@ impl Stream {
     pub fn written(&self, k: usize) -> [u8; PACKET_BYTES] {
         self.station.output[PACKET_BYTES * k..][..PACKET_BYTES].try_into().unwrap()
     }
-
-    pub fn reach(&self) -> usize {
-        self.station.processor.addresses.reach
-    }
 }

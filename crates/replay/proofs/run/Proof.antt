@@ -9,32 +9,32 @@ use Rattle.replay.proofs.run.Statement.{statement}
 use Rattle.replay.proofs.run.Tie as tie
 
 abbrev Inv-loop : tie.InvT-loop
-Inv-loop tables₀ staging₀ slots₀ echo₀ table₀ buffer₀ text₀ state₀ gathered₀ input₀ at₀ turns₀
-    tables staging slots echo table buffer text state gathered input at turns =
-    (length tables ≡ length tables₀) × (length staging ≡ length staging₀) × (length slots ≡ length slots₀) × (length echo ≡ length echo₀)
+Inv-loop tables₀ staging₀ marks₀ slots₀ echo₀ table₀ buffer₀ text₀ state₀ gathered₀ input₀ at₀ turns₀
+    tables staging marks slots echo table buffer text state gathered input at turns =
+    (length tables ≡ length tables₀) × (length staging ≡ length staging₀) × (length marks ≡ length marks₀) × (length slots ≡ length slots₀) × (length echo ≡ length echo₀)
     × (length table ≡ length table₀) × (length buffer ≡ length buffer₀) × (length text ≡ length text₀) × Held input buffer
 
 abbrev μ-loop : tie.MeasureT-loop
-μ-loop tables₀ staging₀ slots₀ echo₀ table₀ buffer₀ text₀ state₀ gathered₀ input₀ at₀ turns₀
-    tables staging slots echo table buffer text state gathered input at turns =
+μ-loop tables₀ staging₀ marks₀ slots₀ echo₀ table₀ buffer₀ text₀ state₀ gathered₀ input₀ at₀ turns₀
+    tables staging marks slots echo table buffer text state gathered input at turns =
     turns
 
 step-requires : tie.Need-step-requires Inv-loop μ-loop
 step-requires c κs =
-    let k = c .before .before .before .before .before .before .before .before .before .before in
+    let k = c .before .before .before .before .before .before .before .before .before .before .before in
     let n = k .next in
     first-lies (n .result) _ (n .last .0) (n .ensures)
 
 left-requires : tie.Need-left-requires Inv-loop μ-loop
 left-requires c κs =
-    let s = c .before .before .before .before .before .before .before .before .before .before .before .before .before .before .before .before .before in
-    let l = s .before .before .before .before .before .before .before .before .before .before .before .before .before .before .before in
+    let s = c .before .before .before .before .before .before .before .before .before .before .before .before .before .before .before .before .before .before .before in
+    let l = s .before .before .before .before .before .before .before .before .before .before .before .before .before .before .before .before in
     omega (arith, l .loop-test .taken)
 
 loop-again : tie.Need-loop-again Inv-loop μ-loop
 loop-again c =
-    let s = c .before .before .before .before .before .before .before .before .before .before .before .before .before .before .before .before .before .before in
-    let n = s .before .before .before .before .before .before .before .before .before .before .before in
+    let s = c .before .before .before .before .before .before .before .before .before .before .before .before .before .before .before .before .before .before .before .before in
+    let n = s .before .before .before .before .before .before .before .before .before .before .before .before in
     let l = n .before .before .before .before .before in
     omega (arith, s .step, n .next, l .loop .inv)
 
@@ -54,6 +54,7 @@ run-spec =
     (λ c. search needs)
     loop-again
     (λ c κs. search needs)
+    (λ c. search needs)
     (λ c. search needs)
     (λ c. search needs)
     (λ c. search needs)

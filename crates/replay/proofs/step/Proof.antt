@@ -18,7 +18,7 @@ use Rattle.replay.proofs.step.Tie as tie
 
 -- where the function began
 abbrev begun : tie.After-found → tie.Start
-begun c = c .before .before .before .before .before .before .before .before .before
+begun c = c .before .before .before .before .before .before .before .before .before .before
 
 -- where the record was carried out on the ground, and before that aboard
 abbrev ground : tie.After-both3 → tie.After-carry-out2
@@ -26,7 +26,7 @@ ground c = c .before .before .before .before .before .before
 
 abbrev aboard : tie.After-both3 → tie.After-carry-out
 aboard c =
-    ground c .before .before .before .before .before .before .before .before .before .before .before .before .before .before
+    ground c .before .before .before .before .before .before .before .before .before .before .before .before .before .before .before .before
 
 -- the record that was found lies in the buffer
 lies : (c : tie.After-found) →
@@ -34,19 +34,19 @@ lies : (c : tie.After-found) →
 lies c = subst (λ (x : Next). LiesIn x (now (begun c .args .buffer))) (c .found .given .1) (begun c .pre)
 
 -- what a step makes of a record, from the state, the gatherer and the buffers that it was given
-abbrev Makes : tie.Start → Next → Step → Gathered → (tables staging slots echo table : List ℕ) → Type 0
-Makes c x r g tables staging slots echo table =
+abbrev Makes : tie.Start → Next → Step → Gathered → (tables staging marks slots echo table : List ℕ) → Type 0
+Makes c x r g tables staging marks slots echo table =
     let a = c .args in
     Held (r .input) (now (a .buffer))
-    × (Stepped x (a .state) (now (a .tables)) (now (a .staging)) (now (a .slots)) (now (a .echo)) (now (a .buffer))
-    r tables staging slots echo
+    × (Stepped x (a .state) (now (a .tables)) (now (a .staging)) (now (a .marks)) (now (a .slots)) (now (a .echo)) (now (a .buffer))
+    r tables staging marks slots echo
     × (gatherer g table ≡ groundStepped x (gatherer (a .gathered) (now (a .table))) (now (a .buffer))))
 
 -- the record that the match took apart is the one that was found, and the step and the gatherer are those that `both` was given
-stepped : (c : tie.Start) {x y : Next} {r s : Step} {g h : Gathered} (tables staging slots echo table : List ℕ)
+stepped : (c : tie.Start) {x y : Next} {r s : Step} {g h : Gathered} (tables staging marks slots echo table : List ℕ)
     → x ≡ y → (r ≡ s) × (g ≡ h)
-    → Makes c y s h tables staging slots echo table → Makes c x r g tables staging slots echo table
-stepped c tables staging slots echo table e b m = rw (e, b .0, b .1) m
+    → Makes c y s h tables staging marks slots echo table → Makes c x r g tables staging marks slots echo table
+stepped c tables staging marks slots echo table e b m = rw (e, b .0, b .1) m
 
 sub-body : tie.Need-sub-body
 sub-body c = lies (c .before) .0
@@ -59,7 +59,7 @@ part-body-end c = omega (arith, lies (c .before) .1)
 
 carry-out-requires : tie.Need-carry-out-requires
 carry-out-requires c κs =
-    let b = c .before .before .before .before .before .before in
+    let b = c .before .before .before .before .before .before .before in
     let f = b .before .before in
     subst (Long (f .found .given .0 .0)) (b .body .given .1) (lies f .2)
 
@@ -67,36 +67,36 @@ returns : tie.Need-returns
 returns c =
     let x = c .before in
     let t = x .before in
-    let s = t .before .before .before .before .before .before .before .before .before in
+    let s = t .before .before .before .before .before .before .before .before .before .before in
     let a = s .args in
     let e = x .stopped .ensures in
-    stepped s (now (a .tables)) (now (a .staging)) (now (a .slots)) (now (a .echo)) (now (a .table)) (t .enum-told .given .1)
+    stepped s (now (a .tables)) (now (a .staging)) (now (a .marks)) (now (a .slots)) (now (a .echo)) (now (a .table)) (t .enum-told .given .1)
     (c .both .ensures)
-    (omega (arith, e .1, e .2), ((e .0, refl, refl, refl, refl, e .3), refl))
+    (omega (arith, e .1, e .2), ((e .0, refl, refl, refl, refl, refl, e .3), refl))
 
 returns-2 : tie.Need-returns-2
 returns-2 c =
     let x = c .before .before .before in
     let t = x .before .before .before in
-    let s = t .before .before .before .before .before .before .before .before .before in
+    let s = t .before .before .before .before .before .before .before .before .before .before in
     let a = s .args in
     let e = x .bad .ensures in
-    stepped s (now (a .tables)) (now (a .staging)) (now (a .slots)) (now (a .echo)) (now (a .table)) (t .enum-told2 .given .1)
+    stepped s (now (a .tables)) (now (a .staging)) (now (a .marks)) (now (a .slots)) (now (a .echo)) (now (a .table)) (t .enum-told2 .given .1)
     (c .both2 .ensures)
-    (omega (arith, e .1, e .2), ((e .0, refl, refl, refl, refl, e .3), refl))
+    (omega (arith, e .1, e .2), ((e .0, refl, refl, refl, refl, refl, e .3), refl))
 
 returns-3 : tie.Need-returns-3
 returns-3 c =
     let y = ground c in
     let x = aboard c in
-    let f = x .before .before .before .before .before .before .before .before .before in
+    let f = x .before .before .before .before .before .before .before .before .before .before in
     let e = x .carry-out .ensures in
     let g = c .before .going-on .ensures in
     let last = x .carry-out .last in
-    stepped (begun f) (last .1 .1 .0) (last .1 .1 .1 .0) (last .1 .1 .1 .1 .0) (last .1 .1 .1 .1 .1 .0) (y .carry-out2 .last .1 .1 .0)
+    stepped (begun f) (last .1 .1 .0) (last .1 .1 .1 .0) (last .1 .1 .1 .1 .0) (last .1 .1 .1 .1 .1 .0) (last .1 .1 .1 .1 .1 .1 .0) (y .carry-out2 .last .1 .1 .0)
     (f .found .given .1)
     (c .both3 .ensures)
-    (omega (arith, g .1, g .2, lies f .1), (((g .0 ∙ e .0, e .1, e .2, e .3, e .4), g .1, g .2, g .3), y .carry-out2 .ensures))
+    (omega (arith, g .1, g .2, lies f .1), (((g .0 ∙ e .0, e .1, e .2, e .3, e .4, e .5), g .1, g .2, g .3), y .carry-out2 .ensures))
 
 pub step-spec : {M : Type 1} → statement M
 step-spec =
@@ -123,6 +123,7 @@ step-spec =
     (λ c. aboard c .carry-out .kept .1 .1 .1 .0)
     (λ c. aboard c .carry-out .kept .1 .1 .1 .1 .0)
     (λ c. aboard c .carry-out .kept .1 .1 .1 .1 .1 .0)
+    (λ c. aboard c .carry-out .kept .1 .1 .1 .1 .1 .1 .0)
     (λ c. search needs)
-    (λ c. ground c .carry-out2 .kept .1 .1 .1 .1 .0 ∙ aboard c .carry-out .kept .1 .1 .1 .1 .1 .1 .1 .0)
+    (λ c. ground c .carry-out2 .kept .1 .1 .1 .1 .0 ∙ aboard c .carry-out .kept .1 .1 .1 .1 .1 .1 .1 .1 .0)
     returns-3)

@@ -6,7 +6,7 @@ use Rattle.command.proofs.keyword.with_two.Tie as tie
 
 returns : tie.Need-returns
 unfolding withTwo look
-returns c = simp (c .row .ensures, c .before .load-line .ensures)
+returns c = simp (c .row .ensures, c .before .ask-line .ensures)
 
 pub with-two-spec : {M : Type 1} → statement M
 with-two-spec = tie.close (tie.spec (λ c. search needs) (λ c κs. search needs) (λ c κs. search needs) returns)

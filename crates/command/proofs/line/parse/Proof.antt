@@ -1,4 +1,4 @@
--- `parse` cuts the line at its first two spaces, and those words decide what the line is.
+-- `parse` cuts the line at its first two spaces; the words behind are `parse_more`'s.
 use Prim.Native.Nat.{ℕ, _+_, _-_}
 use mathlib.Core.Path.{_≡_, sym, ap, _∙_}
 use mathlib.Core.List.{List}
@@ -9,8 +9,9 @@ use native.Mathlib.Omega.{arith}
 use borrow.Author.Tests.{eq-eqb}
 use lib.Seq.{length-take-le}
 use denote.Ref.{now}
-use Rattle.command.specs.Grammar.{oneArgument, twoArguments, lineOf}
-use Rattle.command.proofs.WordLaws.{line-bare, line-one, line-two, rest-is}
+use Rattle.command.specs.Grammar.{lineWords, oneArgument, lineOf}
+use Rattle.command.specs.Parsing.{moreWords}
+use Rattle.command.proofs.WordLaws.{line-bare, line-one, line-more, rest-is}
 use borrow.Author.Needs.{needs}
 use Rattle.command.proofs.line.parse.Statement.{statement}
 use Rattle.command.proofs.line.parse.Tie as tie
@@ -50,8 +51,7 @@ slice-aggregate-argument-of c = sym (length-take-le _ _ (omega arith))
 
 returns-4 : tie.Need-returns-4
 returns-4 c =
-    let a3 = c .before in
-    let a2 = a3 .before .before in
+    let a2 = c .before .before in
     let e3 = a2 .before .before in
     let w2 = e3 .before in
     let e2 = w2 .before .before .before in
@@ -64,10 +64,10 @@ returns-4 c =
     let rest : List ℕ = take (length line - (k + 1)) (drop (k + 1) line) in
     let lr : length rest ≡ length line - (k + 1) = length-part line (k + 1) (length line - (k + 1)) (omega arith) in
     let last : List ℕ = take (length rest - (m + 1)) (drop (m + 1) rest) in
-    c .two-arguments .ensures
-    ∙ (λ i. twoArguments (take k line) (a2 .argument-of2 .ensures i) (a3 .argument-of3 .ensures i) (s .reach))
+    c .parse-more .ensures
+    ∙ ap (λ (a : Argument). moreWords (take k line) a (lineWords last) (s .reach)) (a2 .argument-of2 .ensures)
     ∙ sym
-    (line-two line (s .reach) k (e1 .if1 .left) (w1 .word-length .ensures .0) rest (rest-is line (k + 1)) (e2 .if2 .left)
+    (line-more line (s .reach) k (e1 .if1 .left) (w1 .word-length .ensures .0) rest (rest-is line (k + 1)) (e2 .if2 .left)
     m last (w2 .word-length2 .ensures .0) (rest-is rest (m + 1)) (omega arith))
 
 pub parse-spec : {M : Type 1} → statement M
@@ -92,6 +92,5 @@ parse-spec =
     (λ c. search needs)
     (λ c. search needs)
     (λ c. search needs)
-    (λ c κs. search needs)
     (λ c κs. search needs)
     returns-4)

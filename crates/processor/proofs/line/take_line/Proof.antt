@@ -1,44 +1,67 @@
 -- Past 1 and 4 a line is refused by its command's checks with the error echo, or accepted.
 use mathlib.Core.Path.{_≡_, sym, ap, _∙_}
+use Prim.Native.Nat.{ℕ}
+use mathlib.Core.Bool.{Bool, _&&_, not, cond}
 use borrow.Author.Tests.{eq-eqb, ne-eqb}
 use denote.Ref.{now}
-use lib.Dec.{leb}
+use lib.Dec.{eqb, leb}
 use lib.ListN.{length}
-use Rattle.causes.specs.Checks.{numberBy}
-use Rattle.command.specs.Asked.{isWrong, isCommand, usesStaging}
+use mathlib.Core.List.{List}
+use Rattle.causes.specs.Checks.{Check, numberBy}
+use Rattle.command.specs.declared.command.Line.{Line}
+use Rattle.command.specs.Asked.{isCommand}
 use Rattle.command.specs.Grammar.{lineOf}
+use Rattle.load.specs.Marks.{noneBad, stagedSum}
+use Rattle.load.proofs.StagingLaws.{addresses-are}
 use Rattle.orders.specs.Orders.{loadWaits, commandsFull}
 use Rattle.orders.proofs.OrderLaws.{orders-are}
 use Rattle.state.proofs.LimitLaws.{state-limits}
-use Rattle.accepted_line.specs.Told.{commandChecks}
-use Rattle.accepted_line.proofs.ToldLaws.{command-five}
+use Rattle.accepted_line.specs.Told.{commandChecks, sumTold}
+use Rattle.accepted_line.specs.Judged.{JudgedAs}
+use Rattle.accepted_line.proofs.ToldLaws.{command-accepts, command-five, judged-same}
 use Rattle.processor.specs.Line.{lineNumber, lineDone}
-use Rattle.processor.proofs.CallLaws.{line-number}
+use Rattle.processor.proofs.CallLaws.{askedChecks, line-number}
 use borrow.Author.Needs.{needs}
 use Rattle.processor.proofs.line.take_line.Statement.{statement}
 use Rattle.processor.proofs.line.take_line.Tie as tie
 
--- the function's entry, and the number of the line
-abbrev start : tie.After-command-number → tie.Start
-start k = let p = k .before .before .before in p .before .before .before
+-- the function's entry
+abbrev start : tie.After-judge → tie.Start
+start k = let p = k .before .before .before in p .before .before .before .before .before
 
-cause-is : (k : tie.After-command-number)
-    → let a = start k .args in
-    let o = a .state .orders in
-    lineNumber (a .state) (now (a .line)) (length (now (a .echo)))
-    ≡ numberBy (commandChecks (loadWaits o) (commandsFull o) (lineOf (now (a .line)) (a .state .staging .reach)))
-cause-is k =
-    let s = start k in
-    line-number (s .args .state) (now (s .args .line)) _ (s .pre .1 .0) (eq-eqb _ _ (s .pre .0 .0)) (s .pre .1 .1)
+-- what the line is, and what it is judged by
+abbrev asked : (s : tie.Start) → Line
+asked s = lineOf (now (s .args .line)) (s .args .state .staging .reach)
 
-number-is : (k : tie.After-command-number)
-    → lineNumber (start k .args .state) (now (start k .args .line)) (length (now (start k .args .echo))) ≡ k .command-number .result
-number-is k =
+abbrev checks : (s : tie.Start) → List Check
+checks s = askedChecks (s .args .state) (now (s .args .line)) (now (s .args .staging)) (now (s .args .marks)) (length (now (s .args .echo)))
+
+abbrev sum : (s : tie.Start) → ℕ
+sum s = stagedSum (now (s .args .staging)) (s .args .state .staging .reach)
+
+abbrev good : (s : tie.Start) → Bool
+good s = noneBad (now (s .args .marks)) (s .args .state .staging .reach)
+
+judged : (k : tie.After-judge) → JudgedAs (k .judge .result) (checks (start k)) (asked (start k)) (sum (start k))
+judged k =
     let f = k .before in
     let w = f .before in
-    cause-is k
-    ∙ sym (k .command-number .ensures
-    ∙ (λ i. numberBy (commandChecks (w .load-waits .ensures i) (f .full .ensures i) (w .before .parse .ensures i))))
+    judged-same (k .judge .result) (good (start k)) (sum (start k)) (w .load-waits .ensures) (f .full .ensures) (w .before .parse .ensures) (k .judge .ensures)
+
+number-is : (k : tie.After-judge)
+    → let a = start k .args in
+    lineNumber (a .state) (now (a .line)) (now (a .staging)) (now (a .marks)) (length (now (a .echo))) ≡ k .judge .result .number
+number-is k =
+    let s = start k in
+    line-number (s .args .state) (now (s .args .line)) (now (s .args .staging)) (now (s .args .marks)) _
+    (rw (s .pre .1 .1 .0, eq-eqb _ _ (s .pre .0 .0), eq-eqb _ _ (s .pre .0 .1), eq-eqb _ _ (s .pre .1 .0 .0))) (s .pre .1 .1 .1)
+    ∙ sym (judged k .0)
+
+judge-requires : tie.Need-judge-requires
+judge-requires c κs =
+    let s = c .before .before .before .before .before .before .before in
+    let st = s .args .state in
+    (s .pre .0 .0, s .pre .0 .1, addresses-are (st .staging) (state-limits st (s .pre .1 .1 .0) .staging) .1)
 
 returns : tie.Need-returns
 unfolding lineDone
@@ -46,31 +69,26 @@ returns c =
     let w = c .before .before in
     let t = w .before .before in
     let k = t .before in
-    let s = start k in
-    let l = lineOf (now (s .args .line)) (s .args .state .staging .reach) in
     let n = ne-eqb _ _ (t .if1 .taken) in
-    let o = s .args .state .orders in
-    let five = command-five (isWrong l) (usesStaging l) (isCommand l) (loadWaits o) (commandsFull o)
-    (λ z. t .if1 .taken (sym (number-is k) ∙ cause-is k ∙ z)) in
-    let five′ = ap (leb 5) (sym (cause-is k) ∙ number-is k) in
-    (simp (number-is k, n), simp (number-is k, n, sym five′ ∙ five) (w .write-refused .ensures))
+    let j = judged k in
+    let o = start k .args .state .orders in
+    let five = ap (leb 5) (j .0) ∙ command-five (loadWaits o) (commandsFull o) (good (start k)) (sum (start k)) (asked (start k)) (λ e. t .if1 .taken (j .0 ∙ e)) in
+    (simp (number-is k, n), simp (number-is k, n, five) (w .write-refused .ensures))
 
 echo-told-requires : tie.Need-echo-told-requires
 echo-told-requires c κs =
     let s = start (c .before .before) in
     let st = s .args .state in
-    (s .pre .0, orders-are (st .orders) (st .staging .reach) (state-limits st (s .pre .1 .0) .orders) .accepted-most)
+    (s .pre .1 .0, orders-are (st .orders) (st .staging .reach) (state-limits st (s .pre .1 .1 .0) .orders) .accepted-most)
 
 after-line-requires : tie.Need-after-line-requires
 after-line-requires c κs =
     let e = c .before .before .before .before in
     let k = e .before in
     let s = start k in
-    let p = k .before .before .before in (
-      s .pre .1 .0,
-      ap (λ l. numberBy (commandChecks (loadWaits (s .args .state .orders)) (commandsFull (s .args .state .orders)) l)) (p .parse .ensures)
-          ∙ sym (cause-is k) ∙ number-is k ∙ e .if1 .left,
-    )
+    let o = s .args .state .orders in
+    let a = command-accepts (loadWaits o) (commandsFull o) (good s) (sum s) (asked s) (sym (judged k .0) ∙ e .if1 .left) in
+    (s .pre .1 .1 .0, ap (λ (l : Line). not (isCommand l && commandsFull o)) (k .before .before .before .parse .ensures) ∙ a .room)
 
 returns-2 : tie.Need-returns-2
 unfolding lineDone
@@ -80,7 +98,9 @@ returns-2 c =
     let k = e .before in
     let p = k .before .before .before in
     let z = number-is k ∙ e .if1 .left in
-    (simp (z, c .after-line .ensures, p .parse .ensures), simp z (a .echo-told .ensures))
+    let j = judged k in
+    let t = j .1 ∙ ap (λ (n : ℕ). cond (eqb n 0) (sumTold (asked (start k)) (sum (start k))) 0) (sym (j .0) ∙ e .if1 .left) in
+    (simp (z, c .after-line .ensures, p .parse .ensures, t), simp z (a .echo-told .ensures))
 
 pub take-line-spec : {M : Type 1} → statement M
 take-line-spec =
@@ -89,7 +109,7 @@ take-line-spec =
     (λ c κs. search needs)
     (λ c κs. search needs)
     (λ c κs. search needs)
-    (λ c κs. search needs)
+    judge-requires
     (λ c κs. search needs)
     (λ c. search needs)
     returns

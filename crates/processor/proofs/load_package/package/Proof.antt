@@ -15,18 +15,18 @@ returns c =
     let p = c .before in
     let n = p .before .package-number .ensures in
     let e = sym (p .is-staged .ensures) ∙ not-true _ (c .if1 .taken) in
-    (simp (sym n, e), (simp (sym n, e), simp (sym n, e)))
+    (simp (sym n, e), (simp (sym n, e), (simp (sym n, e), simp (sym n, e))))
 
 -- what is known of a package that is staged
 abbrev start : tie.Else1 → tie.Start
-start l = let n = l .before .before in (let k = n .before .before in k .before .before)
+start l = let n = l .before .before in (let k = n .before .before in k .before .before .before)
 
 staged-is : (l : tie.Else1)
-    → let a = start l .args in Stages (a .state) (now (a .bytes)) (length (now (a .staging))) (length (now (a .echo)))
+    → let a = start l .args in Stages (a .state) (now (a .bytes)) (length (now (a .staging))) (length (now (a .marks))) (length (now (a .echo)))
 staged-is l =
     let p = l .before in
     let n = p .before .package-number .ensures in
-    package-stages (start l .args .state) (now (start l .args .bytes)) _ _
+    package-stages (start l .args .state) (now (start l .args .bytes)) _ _ _
     (ap isStaged (sym n) ∙ sym (p .is-staged .ensures) ∙ not-false _ (l .if1 .left))
 
 echo-staged-requires : tie.Need-echo-staged-requires
@@ -36,21 +36,24 @@ echo-staged-requires c κs =
 
 stage-requires : tie.Need-stage-requires
 stage-requires c κs =
-    let e = c .before .before .before in
+    let e = c .before .before .before .before in
     let k = staged-is (e .before .before) in
-    (k .staging-is, k .is-placeable)
+    ((k .staging-is, k .marks-are), k .is-placeable)
 
 returns-2 : tie.Need-returns-2
 unfolding packageDone
 returns-2 c =
-    let st = c .before .before in
-    let ec = (let k = st .before .before .before in k .before) in
+    let st = c .before .before .before .before in
+    let ec = (let k = st .before .before .before in k .before .before) in
     let l = ec .before .before in
     let p = l .before in
     let n = p .before .package-number .ensures in
     let e = sym (p .is-staged .ensures) ∙ not-false _ (l .if1 .left) in (
       simp (sym n, e, st .stage .ensures .0),
-      (simp (sym n, e) (st .stage .ensures .1), simp (sym n, e) (ec .echo-staged .ensures)),
+      (
+        simp (sym n, e) (st .stage .ensures .1 .0),
+        (simp (sym n, e) (st .stage .ensures .1 .1), simp (sym n, e) (ec .echo-staged .ensures)),
+      ),
     )
 
 pub package-spec : {M : Type 1} → statement M
@@ -62,6 +65,7 @@ package-spec =
     returns
     echo-staged-requires
     stage-requires
+    (λ c. search needs)
     (λ c. search needs)
     (λ c. search needs)
     returns-2)

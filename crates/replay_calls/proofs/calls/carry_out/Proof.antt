@@ -16,25 +16,25 @@ use Rattle.replay_calls.proofs.calls.carry_out.Tie as tie
 event-requires : tie.Need-event-requires
 event-requires c κs =
     let m = c .before .before .before .before in
-    let s = m .before .before .before .before .before .before .before in
+    let s = m .before .before .before .before .before .before .before .before in
     s .pre .0 .0 (m .match .keys1)
 
 reading-requires : tie.Need-reading-requires
 reading-requires c κs =
     let m = c .before .before in
-    let s = m .before .before .before .before .before .before .before in
+    let s = m .before .before .before .before .before .before .before .before in
     s .pre .0 .1 (m .match .keys2)
 
 close-requires : tie.Need-close-requires
 close-requires c κs =
     let m = c .before .before .before .before .before in
-    let s = m .before .before .before .before .before .before .before in
+    let s = m .before .before .before .before .before .before .before .before in
     s .pre .0 .2 (m .match .keys4)
 
 listing-requires : tie.Need-listing-requires
 listing-requires c κs =
     let m = c .before .before .before in
-    let s = m .before .before .before .before .before .before .before in
+    let s = m .before .before .before .before .before .before .before .before in
     s .pre .1 (m .match .keys6)
 
 returns : tie.Need-returns
@@ -42,44 +42,44 @@ returns c =
     let x = c .before .before .before .before in
     let k = x .before .before .before .before .before .match .keys1 in
     let e = x .event .ensures in
-    event-leaves _ _ _ _ _ _ _ _ _ k (e .0) (e .1)
+    event-leaves _ _ _ _ _ _ _ _ _ _ k (e .0) (e .1)
 
 returns-2 : tie.Need-returns-2
 returns-2 c =
     let x = c .before .before in
     let k = x .before .before .before .match .keys2 in
-    reading-leaves _ _ _ _ _ _ _ _ k (x .reading .ensures)
+    reading-leaves _ _ _ _ _ _ _ _ _ k (x .reading .ensures)
 
 returns-3 : tie.Need-returns-3
 returns-3 c =
     let x = c .before .before .before .before in
-    let k = x .before .before .before .before .match .keys3 in
+    let k = x .before .before .before .before .before .before .match .keys3 in
     let e = x .line .ensures in
-    line-leaves _ _ _ _ _ _ _ _ _ k (e .0) (e .1)
+    line-leaves _ _ _ _ _ _ _ _ _ _ k (e .0) (e .1)
 
 returns-4 : tie.Need-returns-4
 returns-4 c =
     let x = c .before .before .before .before .before .before in
     let k = x .before .before .before .before .before .before .match .keys4 in
     let e = x .close .ensures in
-    close-leaves _ _ _ _ _ _ _ _ _ _ k (e .0, e .1 .0, e .1 .1)
+    close-leaves _ _ _ _ _ _ _ _ _ _ _ k (e .0, e .1 .0, e .1 .1)
 
 returns-5 : tie.Need-returns-5
 returns-5 c =
-    let x = c .before .before .before .before .before .before in
-    let k = x .before .before .before .before .before .match .keys5 in
+    let x = c .before .before .before .before .before .before .before .before in
+    let k = x .before .before .before .before .before .before .match .keys5 in
     let e = x .package .ensures in
-    package-leaves _ _ _ _ _ _ _ _ _ _ k (e .0, e .1 .0, e .1 .1)
+    package-leaves _ _ _ _ _ _ _ _ _ _ _ _ k (e .0, e .1 .0, e .1 .1 .0, e .1 .1 .1)
 
 returns-6 : tie.Need-returns-6
 returns-6 c =
     let k = c .before .before .before .before .before .before .match .keys6 in
-    listing-leaves _ _ _ _ _ _ _ _ k refl
+    listing-leaves _ _ _ _ _ _ _ _ _ k refl
 
 returns-7 : tie.Need-returns-7
 returns-7 c =
     let r = c .match .rest .0 in
-    other-leaves _ _ _ _ _ _ _ _ (r .0 .0 .0 .0 .1, r .0 .0 .0 .1, r .0 .0 .1, r .0 .1, r .1) refl
+    other-leaves _ _ _ _ _ _ _ _ _ (r .0 .0 .0 .0 .1, r .0 .0 .0 .1, r .0 .0 .1, r .0 .1, r .1) refl
 
 pub carry-out-spec : {M : Type 1} → statement M
 carry-out-spec =
@@ -99,12 +99,15 @@ carry-out-spec =
     returns-2
     (λ c. search needs)
     (λ c. search needs)
+    (λ c. search needs)
+    (λ c. search needs)
     returns-3
     (λ c. search needs)
     (λ c. search needs)
     (λ c. search needs)
     (λ c. search needs)
     returns-4
+    (λ c. search needs)
     (λ c. search needs)
     (λ c. search needs)
     (λ c. search needs)
