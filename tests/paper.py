@@ -272,7 +272,7 @@ RATE, FIRST_SAMPLE, BEACON = 605, 606, 624
 APPLICATIONS = (RATE, *range(FIRST_SAMPLE, FIRST_SAMPLE + SAMPLE_PACKETS), BEACON)
 
 
-def rate_code(n):
+def first_code(n):
     # "n below 4,096; else 4,096s + floor(n / 2^s), s the least with quotient < 4,096"
     s = 0
     while n >> s >= 4096:
@@ -280,12 +280,39 @@ def rate_code(n):
     return 4096 * s + (n >> s)
 
 
-def least_count(code):
+def first_least_count(code):
     # "Its least count is quotient × 2^s." None for a "code with s ≥ 1 and quotient below 2,048 or s above 12".
     s, quotient = divmod(code, 4096)
     if s > 12 or s >= 1 and quotient < 2048:
         return None
     return quotient << s
+
+
+def second_code(n):
+    # "Below 4,096 the code stays n. From 4,096 on, with e so that 2^(11+e) ≤ n < 2^(12+e), the code is
+    # 4,096e + floor(n / 2^(e−1)) − 4,096." (document 02, Point 5)
+    if n < 4096:
+        return n
+    e = next(e for e in range(1, 13) if 2**(11 + e) <= n < 2**(12 + e))
+    return 4096 * e + n // 2**(e - 1) - 4096
+
+
+def second_least_count(code):
+    """The least n with floor(n / 2^(e−1)) − 4,096 as the code says. None for the codes "from D000 hex on"."""
+    e, rest = divmod(code, 4096)
+    if code >= 0xD000:
+        return None
+    return (rest + 4096) * 2**(e - 1) if e >= 1 else rest
+
+
+# "Rate and beacon packets get 1 in byte 269; the reader takes both editions, and 13 judges codes by that byte".
+MARK = 1
+LEAST_COUNT = {0: first_least_count, 1: second_least_count}
+
+
+def rates_of(mark, part):
+    """The least counts of the codes that stand there, each None where no count has the code; [None] for another mark."""
+    return [LEAST_COUNT[mark](c) for c in get_numbers(part, 2)] if mark in LEAST_COUNT else [None]
 
 
 def packet_header(application, frame, time):
@@ -308,14 +335,14 @@ def with_sum(data):
 
 
 def codes(counts):
-    return put_numbers(map(rate_code, counts), 2)
+    return put_numbers(map(second_code, counts), 2)
 
 
 def rate_packet(frame, time, totals, boxes, s, total_of_tables):
     flags = 128 * s.hv + 64 * s.eonly + 32 * s.toferror + 16 * s.junk
     return packet(RATE, frame, time, [
         (11, codes(totals)), (27, codes(boxes)), (260, bytes([s.hvstep, flags])),
-        (262, s.limhi.to_bytes(2, "big")), (264, total_of_tables.to_bytes(3, "big"))])
+        (262, s.limhi.to_bytes(2, "big")), (264, total_of_tables.to_bytes(3, "big")), (269, bytes([MARK]))])
 
 
 def sample_packet(frame, time, p, records):
@@ -323,7 +350,7 @@ def sample_packet(frame, time, p, records):
 
 
 def beacon_packet(frame, time, beacons):
-    return packet(BEACON, frame, time, [(11, codes(beacons))])
+    return packet(BEACON, frame, time, [(11, codes(beacons)), (269, bytes([MARK]))])
 
 
 # ---- the ground reader
@@ -331,7 +358,7 @@ def beacon_packet(frame, time, beacons):
 @dataclass
 class Packet:
     """What the reader returns: "kind, header and frame number, with a rate packet's rates, settings and table sum, a
-    beacon's rates, or p and the record bytes". A refused packet has its number alone."""
+    beacon's rates, or p and the record bytes", and the mark of rates. A refused packet has its number alone."""
     number: int = 0
     kind: str = "none"
     application: int = 0
@@ -344,6 +371,7 @@ class Packet:
     rates: list = field(default_factory=lambda: [0] * (8 + BOXES))
     beacons: list = field(default_factory=lambda: [0] * BEACONS)
     records: bytes = b""
+    mark: int = 0
 
 
 def has_header(data, applications):
@@ -358,11 +386,12 @@ def has_header(data, applications):
 def read_rate(data, answer):
     """Whether the body has no fault; the answer's fields are filled in."""
     answer.kind = "rate"
-    answer.rates = [least_count(c) for c in get_numbers(data[11:259], 2)]
+    answer.mark = data[269]
+    answer.rates = rates_of(answer.mark, data[11:259])
     hv, eonly, toferror, junk = (data[261] >> bit & 1 for bit in (7, 6, 5, 4))
     answer.settings = Settings(int.from_bytes(data[262:264], "big"), eonly, toferror, junk, hv, data[260])
     answer.sum = int.from_bytes(data[264:267], "big")
-    unused = [data[259], data[261] % 16, data[269], data[270]]
+    unused = [data[259], data[261] % 16, data[270]]
     return None not in answer.rates and not any(unused) and answer.settings.limhi <= SLOTS
 
 
@@ -376,8 +405,9 @@ def read_sample(data, answer):
 
 def read_beacon(data, answer):
     answer.kind = "beacon"
-    answer.beacons = [least_count(c) for c in get_numbers(data[11:35], 2)]
-    return None not in answer.beacons and not any(data[35:267]) and not any(data[269:271])
+    answer.mark = data[269]
+    answer.beacons = rates_of(answer.mark, data[11:35])
+    return None not in answer.beacons and not any(data[35:267]) and data[270] == 0
 
 
 def read_packet(data):

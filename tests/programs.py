@@ -289,8 +289,8 @@ def readings():
     output = run("replay", full * 61 + close() + ones + close())
     check("replay: 61 readings", without_packets(output), ["reading 0"] * 60 + ["reading 3"] + closed(0, 0, 0) + ["reading 0"] + closed(1, 0, 0))
     outs = [bytes.fromhex(x[4:]) for x in output.splitlines() if x.startswith("out ")]
-    # 60 * 65,535 is 3,932,100: s is 10, the quotient 3,839, the code AEFF.
-    check("replay: totals", outs[0][11:27].hex() + "\n" + outs[13][11:27].hex() + "\n", ["aeff" * 8, "".join("%04x" % n for n in range(1, 9))])
+    # 60 * 65,535 is 3,932,100: e is 10, the quotient by 512 is 7,679, the code 40,960 + 7,679 - 4,096, ADFF hex.
+    check("replay: totals", outs[0][11:27].hex() + "\n" + outs[13][11:27].hex() + "\n", ["adff" * 8, "".join("%04x" % n for n in range(1, 9))])
 
 
 def commands():
@@ -395,12 +395,12 @@ def packets():
     """The packets of a close, read back."""
     stream = line(b"limhi 2c0") + line(b"hvstep a5") + line(b"toferror 1") + close(7) + event() + reading(*range(8)) + close(0x01020304)
     outs = [bytes.fromhex(x[4:]) for x in run("replay", stream, SORTED).splitlines() if x.startswith("out ")][13:]
-    want = ["packet 0", "rate 1 16909060 1", "rates 0 1 2 3 4 5 6 7 0 1 1" + " 0" * 56 + " 1" + " 0" * 56,
+    want = ["packet 0", "rate 1 16909060 1 1", "rates 0 1 2 3 4 5 6 7 0 1 1" + " 0" * 56 + " 1" + " 0" * 56,
             "settings 165 0 0 1 0 704 %d" % (((128 + 60 + 61) << 16) + 65536 & 0xFFFFFF)]
     slot = "%08x" % record(0, 0, 0, 60, 1)
     for p in range(11):
         want += ["packet 0", f"sample 1 16909060 1 {p}", "records " + (slot if p == 0 else "00000000") + "00" * 252]
-    want += ["packet 0", "beacon 1 16909060 1", "rates" + " 0" * 12]
+    want += ["packet 0", "beacon 1 16909060 1 1", "rates" + " 0" * 12]
     check("replay: packets read back", run("replay", b"".join(map(packet, outs))), want)
     rate = bytearray(outs[0])
     rate[271] ^= 1
@@ -413,6 +413,35 @@ def fault(rate):
     b = bytearray(rate)
     b[259] += 1
     return with_sum(b)
+
+
+# Each code with its least count in the first edition and in the second (document 02, Point 5); None where no count has it.
+EDGE_CODES = {0x0FFF: (4095, 4095), 0x1000: (None, 4096), 0x17FF: (None, 6143), 0x1800: (4096, 6144), 0x8E84: (3716 * 256, 999936),
+              0x8F42: (999936, (3906 + 4096) * 128), 0xCFFF: (4095 * 4096, 8191 * 2048), 0xD000: (None, None), 0xFFFF: (None, None)}
+
+
+def beacon(code, mark):
+    """A beacon packet of time 60 and frame 0 with twelve rates of one code: 624 is 270 hex."""
+    head = bytes.fromhex("0a70c00001090000003c00") + code.to_bytes(2, "big") * 12
+    return changed(head.ljust(272, b"\0"), 269, mark)
+
+
+def editions():
+    """The mark says by which edition codes are judged and read; aboard the second alone is written."""
+    cases = [(code, mark) for code in EDGE_CODES for mark in (0, 1, 3, 255)]
+    want = []
+    for code, mark in cases:
+        least = EDGE_CODES[code][mark] if mark < 2 else None
+        want += ["packet 13"] if least is None else ["packet 0", f"beacon 0 60 0 {mark}", "rates" + f" {least}" * 12]
+    check("replay: codes under each mark", run("replay", b"".join(packet(beacon(*c)) for c in cases)), want)
+    output = run("replay", event() * 4099 + close(), SORTED)
+    outs = [bytes.fromhex(x[4:]) for x in output.splitlines() if x.startswith("out ")]
+    # 4,099 in boxes 2, 3 and 60: 1003 hex.
+    boxes = bytes.fromhex("0000 1003 1003").ljust(2 * 59, b"\0") + bytes.fromhex("1003")
+    check("replay: the second edition aboard", (outs[0][27:27 + 2 * 60].hex() + f" {outs[0][269]} {outs[12][269]}\n"), [boxes.hex() + " 1 1"])
+    # In the first edition these bytes are no codes: 1003 hex has s 1 and a quotient below 2,048.
+    check("replay: the same under mark 0", run("replay", packet(changed(outs[0], 269, 0)) + packet(changed(outs[12], 269, 0))),
+          ["packet 13", "packet 0", "beacon 0 60 0 0", "rates" + " 0" * 12])
 
 
 # ---- listing packets (document 02, Point 1)
@@ -614,7 +643,7 @@ def interrupted():
             check(f"{program}: interrupted, no tables.bin", printed + line, ["refused 1"])
 
 
-for case in (start_and_end, ranges, million, columns, samples, readings, commands, zero_bytes, long_bodies, loads, asks, bad_bytes, packets, listings, gathers, example, session, frames, pieces,
+for case in (start_and_end, ranges, million, columns, samples, readings, commands, zero_bytes, long_bodies, loads, asks, bad_bytes, packets, editions, listings, gathers, example, session, frames, pieces,
              pieces_of_minute, held_open, failed_reads, failed_writes, interrupted):
     case()
 print(f"{counts['passed']} passed, {counts['failed']} failed")

@@ -5,7 +5,7 @@ that of limit_cases comes from the second implementation (compare.sh).
     python3 tests/stored.py --write     writes them anew
 
 No program runs here. The rules are those of paper.py, which is held to "Numbers at the edges" first. The inputs:
-- replay: its stored tables.bin and stdin, which `reference/target/release/streams 178 400 FOLDER` writes;
+- replay: its stored tables.bin and stdin, which `reference/target/release/streams 2624 400 FOLDER` writes;
 - minute: the example of document 01, which is its stored stdin;
 - command_cases: command_inputs.py, which its stored stdin is compared with too;
 - sort_cases and packet_cases: those in their sources, repeated below.
@@ -68,14 +68,15 @@ def packet_lines(p):
     """What is printed of a packet that the reader takes, or its number alone."""
     if p.number != 0:
         return [joined("packet", p.number)]
-    lines = ["packet 0", joined(p.kind, p.sequence, p.time, p.frame)]
+    # A sample packet has p where the others have their mark.
+    lines = ["packet 0", joined(p.kind, p.sequence, p.time, p.frame, p.p if p.kind == "sample" else p.mark)]
     if p.kind == "rate":
         s = p.settings
         settings = joined("settings", s.hvstep, s.hv, s.eonly, s.toferror, s.junk, s.limhi, p.sum)
         return lines + [joined("rates", *p.rates), settings]
     if p.kind == "beacon":
         return lines + [joined("rates", *p.beacons)]
-    return [lines[0], joined(lines[1], p.p), "records " + p.records.hex()]
+    return lines + ["records " + p.records.hex()]
 
 
 def listing_lines(processor, body):
@@ -213,14 +214,14 @@ RATE_DAMAGE = [
     ("summed", 0, 42), ("summed", 0, 26), ("summed", 0, 2), ("summed", 1, 92), ("summed", 2, 128), ("summed", 5, 8),
     ("summed", 10, 1), ("summed", 3, 1), ("summed", 9, 121), ("summed", 268, 1), ("changed", 20, 1), ("changed", 271, 0),
     ("summed", 13, 23), ("summed", 13, 216), ("summed", 13, 200), ("summed", 259, 1), ("summed", 261, 209),
-    ("summed", 261, 216), ("summed", 263, 193), ("summed", 269, 1), ("summed", 270, 1),
+    ("summed", 261, 216), ("summed", 263, 193), ("summed", 269, 0), ("summed", 269, 2), ("summed", 270, 1),
 ]
 SAMPLE_DAMAGE = [
     ("summed", 1, 105), ("summed", 1, 103), ("summed", 269, 9), ("summed", 270, 1), ("summed", 14, 11),
     ("summed", 14, 234), ("summed", 14, 12), ("summed", 14, 232), ("summed", 42, 1), ("changed", 14, 0),
 ]
 BEACON_DAMAGE = [
-    ("summed", 1, 113), ("summed", 35, 1), ("summed", 266, 1), ("summed", 269, 1), ("summed", 270, 1),
+    ("summed", 1, 113), ("summed", 35, 1), ("summed", 266, 1), ("summed", 269, 0), ("summed", 269, 2), ("summed", 270, 1),
     ("summed", 11, 255), ("changed", 35, 1),
 ]
 
@@ -259,7 +260,7 @@ def read_lines(data, damage):
     """The packet's bytes, all that the reader answers for it, and the number of each damaged one."""
     p = paper.read_packet(data)
     s = p.settings
-    lines = [data.hex(), row(p.number, KINDS[p.kind], p.application, p.sequence, p.time, p.frame, p.sum, p.p),
+    lines = [data.hex(), row(p.number, KINDS[p.kind], p.application, p.sequence, p.time, p.frame, p.sum, p.p, p.mark),
              row(s.limhi, s.eonly, s.toferror, s.junk, s.hv, s.hvstep), row(*p.rates), row(*p.beacons), p.records.hex()]
     return lines + [str(paper.read_packet(damaged(data, *d)).number) for d in damage]
 
@@ -367,11 +368,14 @@ def command_cases():
 # ---- "Numbers at the edges", to which paper.py is held
 
 CODES = {4095: 0x0FFF, 4096: 0x1800, 4097: 0x1800, 8191: 0x1FFF, 8192: 0x2800, 1000000: 0x8F42, 16777215: 0xCFFF}
+# Document 02, Point 5.
+SECOND_CODES = {4095: 0x0FFF, 4096: 0x1000, 8192: 0x2000, 1000000: 0x8E84}
 COLUMNS = {-1: -1, 0: 0, 3583: 0, 3584: 1, 458751: 127, 458752: 128}
 
 
 def edges():
-    check("rate codes", [f"{paper.rate_code(n):04X}" for n in CODES], [f"{c:04X}" for c in CODES.values()])
+    check("rate codes", [f"{paper.first_code(n):04X}" for n in CODES], [f"{c:04X}" for c in CODES.values()])
+    check("second edition", [f"{paper.second_code(n):04X}" for n in SECOND_CODES], [f"{c:04X}" for c in SECOND_CODES.values()])
     check("f_m", [str(paper.mass_column(u)) for u in COLUMNS], [str(f) for f in COLUMNS.values()])
     check("record", [f"{paper.pack(300, 1000, 0, 0, 0, 0, 60, 1):08X}"], ["963E8079"])
     check("rate header", [paper.packet_header(605, 0, 0)[:6].hex(" ").upper()], ["0A 5D C0 00 01 09"])

@@ -1,6 +1,9 @@
-//! Document 01, "Packets": the thirteen packets of 272 bytes that close writes.
+//! Document 01, "Packets": the thirteen packets of 272 bytes that close writes; document 02,
+//! Point 5: rates in the second edition of their code.
 
-use crate::codes::code;
+use std::ops::Range;
+
+use crate::codes::Edition;
 use crate::commands::Settings;
 use crate::samples::Slots;
 use crate::sorting::Counts;
@@ -12,6 +15,25 @@ pub const RATE: u16 = 605;
 pub const FIRST_SAMPLE: u16 = 606;
 pub const LAST_SAMPLE: u16 = 616;
 pub const BEACON: u16 = 624;
+
+/// Where a rate and a beacon packet have their mark, the edition of their codes.
+pub const MARK_AT: usize = 269;
+pub const FIRST_MARK: u8 = 0;
+pub const SECOND_MARK: u8 = 1;
+
+/// The codes of a rate packet, totals and boxes, and those of a beacon packet.
+pub const RATE_CODES: Range<usize> = CODES_AT..259;
+pub const BEACON_CODES: Range<usize> = CODES_AT..35;
+const CODES_AT: usize = 11;
+
+/// The edition that a mark stands for.
+pub fn edition(mark: u8) -> Option<Edition> {
+    match mark {
+        FIRST_MARK => Some(Edition::First),
+        SECOND_MARK => Some(Edition::Second),
+        _ => None,
+    }
+}
 
 /// The sum of bytes 0 to 270 modulo 256, which stands in byte 271.
 pub fn packet_sum(packet: &[u8]) -> u8 {
@@ -37,11 +59,12 @@ fn write_framed(packet: &mut [u8], number: u16, time: u32, frame: u16, body: imp
     });
 }
 
-/// Writes the codes of `counts` one after the other.
-fn write_codes(place: &mut [u8], counts: &[u32]) {
-    for (two, n) in place.chunks_exact_mut(2).zip(counts) {
-        two.copy_from_slice(&code(*n).to_be_bytes());
+/// Writes the codes of `counts` one after the other, and their mark.
+fn write_codes<'a>(packet: &mut [u8], counts: impl Iterator<Item = &'a u32>) {
+    for (two, n) in packet[CODES_AT..].chunks_exact_mut(2).zip(counts) {
+        two.copy_from_slice(&Edition::Second.code(*n).to_be_bytes());
     }
+    packet[MARK_AT] = SECOND_MARK;
 }
 
 pub fn write_rate(
@@ -54,8 +77,7 @@ pub fn write_rate(
     table_sum: u32,
 ) {
     write_framed(packet, RATE, time, frame, |packet| {
-        write_codes(&mut packet[11..27], totals);
-        write_codes(&mut packet[27..259], &counts.boxes[1..]);
+        write_codes(packet, totals.iter().chain(&counts.boxes[1..]));
         packet[260] = settings.hvstep;
         packet[261] = (settings.hv as u8) << 7
             | (settings.eonly as u8) << 6
@@ -79,7 +101,7 @@ pub fn write_sample(packet: &mut [u8], time: u32, frame: u16, p: usize, slots: &
 
 pub fn write_beacon(packet: &mut [u8], time: u32, frame: u16, counts: &Counts) {
     write_framed(packet, BEACON, time, frame, |packet| {
-        write_codes(&mut packet[11..35], &counts.beacons[1..]);
+        write_codes(packet, counts.beacons[1..].iter());
     });
 }
 
@@ -117,9 +139,9 @@ mod tests {
     fn rate_body() {
         let packet = rate(1);
         assert_eq!(packet[11..27], [0x0F, 0xFF].repeat(8));
-        assert_eq!(packet[27..31], [0x18, 0x00, 0, 0]);
-        assert_eq!(packet[257..259], [0x8F, 0x42]);
-        assert_eq!(packet[259..271], [0, 0xA5, 128 + 32, 0x02, 0xC0, 0x0A, 0x0B, 0x0C, 0, 1, 0, 0]);
+        assert_eq!(packet[27..31], [0x10, 0x00, 0, 0]);
+        assert_eq!(packet[257..259], [0x8E, 0x84]);
+        assert_eq!(packet[259..271], [0, 0xA5, 128 + 32, 0x02, 0xC0, 0x0A, 0x0B, 0x0C, 0, 1, 1, 0]);
         let sum: u32 = packet[..271].iter().map(|b| *b as u32).sum();
         assert_eq!(packet[271] as u32, sum % 256);
     }
@@ -149,8 +171,9 @@ mod tests {
         write_beacon(&mut packet, 0, 0, &counts);
         // Application number 624 is 270 hex.
         assert_eq!(packet[..2], [0x0A, 0x70]);
-        assert_eq!(packet[11..13], [0x18, 0x00]);
+        assert_eq!(packet[11..13], [0x10, 0x01]);
         assert_eq!(packet[33..35], [0x1F, 0xFF]);
-        assert!(packet[35..271].iter().all(|b| *b == 0));
+        assert!(packet[35..269].iter().all(|b| *b == 0));
+        assert_eq!(packet[269..271], [1, 0]);
     }
 }

@@ -371,7 +371,7 @@ mod tests {
         assert_eq!(station.event(&Event { t: 512, ..STOP }), FIELD);
         let closed = station.close(0);
         assert_eq!((closed.taken, closed.counts.boxes[5]), (1_000_000, 1_000_000));
-        assert_eq!(station.output[35..37], [0x8F, 0x42]); // box 5 of the rate packet
+        assert_eq!(station.output[35..37], [0x8E, 0x84]); // box 5 of the rate packet
         assert_eq!(station.event(&NO_STOP), DONE);
     }
 

@@ -145,8 +145,8 @@ fn print_packet(out: &mut impl Write, packet: &[u8]) -> Result<()> {
     let header = format!("{} {} {}", read.sequence, read.time, read.frame);
     writeln!(out, "packet 0")?;
     match read.body {
-        Body::Rate { totals, boxes, settings, table_sum } => {
-            writeln!(out, "rate {header}")?;
+        Body::Rate { mark, totals, boxes, settings, table_sum } => {
+            writeln!(out, "rate {header} {mark}")?;
             numbers(out, "rates", &[&totals[..], &boxes].concat())?;
             let Settings { limhi, eonly, toferror, junk, hv, hvstep } = settings;
             let [hv, eonly, toferror, junk] = [hv, eonly, toferror, junk].map(u8::from);
@@ -157,8 +157,8 @@ fn print_packet(out: &mut impl Write, packet: &[u8]) -> Result<()> {
             write!(out, "records ")?;
             digits(out, records)
         }
-        Body::Beacon { rates } => {
-            writeln!(out, "beacon {header}")?;
+        Body::Beacon { mark, rates } => {
+            writeln!(out, "beacon {header} {mark}")?;
             numbers(out, "rates", &rates)
         }
     }

@@ -1,7 +1,8 @@
-//! The ground reader: document 01, "Packets" and causes 11 to 13.
+//! The ground reader: document 01, "Packets" and causes 11 to 13; document 02, Point 5: both
+//! editions of the rate code, by the packet's mark.
 
 use crate::causes::*;
-use crate::codes::least_count;
+use crate::codes::Edition;
 use crate::commands::Settings;
 use crate::packets::*;
 
@@ -14,12 +15,12 @@ pub struct Packet<'a> {
     pub body: Body<'a>,
 }
 
-/// Rates are least counts.
+/// Rates are least counts, by the edition of the packet's mark.
 #[derive(Debug, PartialEq, Eq)]
 pub enum Body<'a> {
-    Rate { totals: [u32; 8], boxes: [u32; 116], settings: Settings, table_sum: u32 },
+    Rate { mark: u8, totals: [u32; 8], boxes: [u32; 116], settings: Settings, table_sum: u32 },
     Sample { p: u8, records: &'a [u8] },
-    Beacon { rates: [u32; 12] },
+    Beacon { mark: u8, rates: [u32; 12] },
 }
 
 pub fn read(packet: &[u8]) -> Result<Packet<'_>, Number> {
@@ -59,14 +60,16 @@ pub fn application(packet: &[u8], known: impl Fn(u16) -> bool) -> Result<u16, Nu
 }
 
 fn rate(packet: &[u8]) -> Option<Body<'_>> {
-    let unused = [packet[259], packet[261] & 15, packet[269], packet[270]];
+    let unused = [packet[259], packet[261] & 15, packet[270]];
     let limhi = two_bytes(packet, 262);
-    if unused != [0; 4] || limhi > 704 {
+    if unused != [0; 3] || limhi > 704 {
         return None;
     }
+    let (mark, edition) = marked(packet)?;
     Some(Body::Rate {
-        totals: rates(packet, 11)?,
-        boxes: rates(packet, 27)?,
+        mark,
+        totals: rates(packet, 11, edition)?,
+        boxes: rates(packet, 27, edition)?,
         settings: Settings {
             limhi,
             hvstep: packet[260],
@@ -90,18 +93,25 @@ fn sample(packet: &[u8], application: u16) -> Option<Body<'_>> {
 }
 
 fn beacon(packet: &[u8]) -> Option<Body<'_>> {
-    let unused = [&packet[35..267], &packet[269..271]];
+    let unused = [&packet[35..267], &packet[270..271]];
     if unused.into_iter().flatten().any(|byte| *byte != 0) {
         return None;
     }
-    Some(Body::Beacon { rates: rates(packet, 11)? })
+    let (mark, edition) = marked(packet)?;
+    Some(Body::Beacon { mark, rates: rates(packet, 11, edition)? })
+}
+
+/// The mark of a rate or beacon packet and its edition; none for any other byte.
+fn marked(packet: &[u8]) -> Option<(u8, Edition)> {
+    let mark = packet[MARK_AT];
+    Some((mark, edition(mark)?))
 }
 
 /// The least counts of the N codes from byte `from` on.
-fn rates<const N: usize>(packet: &[u8], from: usize) -> Option<[u32; N]> {
+fn rates<const N: usize>(packet: &[u8], from: usize, edition: Edition) -> Option<[u32; N]> {
     let mut counts = [0; N];
     for (i, count) in counts.iter_mut().enumerate() {
-        *count = least_count(two_bytes(packet, from + 2 * i))?;
+        *count = edition.least_count(two_bytes(packet, from + 2 * i))?;
     }
     Some(counts)
 }
@@ -154,12 +164,13 @@ mod tests {
     fn a_rate_packet_reads_back() {
         let packet = rate_packet();
         let read = read(&packet).unwrap();
-        // 40,000 modulo 16,384 is 7,232; 8,193 has least count 8,192, 1,000,000 999,936.
+        // 40,000 modulo 16,384 is 7,232; 8,193 has least count 8,192, 1,000,000 7,812 x 128.
         assert_eq!((read.sequence, read.time, read.frame), (7_232, 60, 40_000));
         let mut boxes = [0; 116];
         boxes[4] = 999_936;
         let totals = [8_192; 8];
-        assert_eq!(read.body, Body::Rate { totals, boxes, settings: SETTINGS, table_sum: 0x123456 });
+        let (mark, settings, table_sum) = (1, SETTINGS, 0x123456);
+        assert_eq!(read.body, Body::Rate { mark, totals, boxes, settings, table_sum });
     }
 
     #[test]
@@ -172,8 +183,9 @@ mod tests {
 
     #[test]
     fn a_beacon_packet_reads_back() {
-        // 5,000 is 2 x 2,500: least count 5,000.
-        assert_eq!(read(&beacon_packet()).unwrap().body, Body::Beacon { rates: [5_000; 12] });
+        // 5,000 is below 8,192: every n has its own code.
+        let body = Body::Beacon { mark: 1, rates: [5_000; 12] };
+        assert_eq!(read(&beacon_packet()).unwrap().body, body);
     }
 
     #[test]
@@ -211,7 +223,7 @@ mod tests {
 
     #[test]
     fn cause_13_in_each_unused_byte() {
-        for at in [259, 269, 270] {
+        for at in [259, 270] {
             assert_eq!(changed(rate_packet(), at, 1), BODY);
         }
         for bit in 0..4 {
@@ -219,7 +231,7 @@ mod tests {
             assert_eq!(changed(rate_packet(), 261, 16 << bit), DONE);
         }
         assert_eq!(changed(sample_packet(3), 270, 128), BODY);
-        for at in (35..267).chain([269, 270]) {
+        for at in (35..267).chain([270]) {
             assert_eq!(changed(beacon_packet(), at, 1), BODY);
         }
     }
@@ -227,15 +239,54 @@ mod tests {
     #[test]
     fn cause_13_in_codes_and_limhi() {
         for at in [11, 25, 27, 257] {
-            assert_eq!(changed(rate_packet(), at, 0x17), BODY);
-            assert_eq!(changed(rate_packet(), at, 0xD8), BODY);
-            assert_eq!(changed(rate_packet(), at, 0xC8), DONE);
+            assert_eq!(changed(rate_packet(), at, 0x17), DONE);
+            assert_eq!(changed(rate_packet(), at, 0xD0), BODY);
+            assert_eq!(changed(rate_packet(), at, 0xCF), DONE);
         }
-        assert_eq!(changed(beacon_packet(), 33, 0x10), BODY);
+        assert_eq!(changed(beacon_packet(), 33, 0xFF), BODY);
         let mut packet = rate_packet();
         packet[262] = 2;
         assert_eq!(changed(packet, 263, 0xC0), DONE); // 2C0 hex is 704
         assert_eq!(changed(packet, 263, 0xC1), BODY);
+    }
+
+    /// All rates of one code, under a mark.
+    fn of_code(
+        mut packet: [u8; PACKET_BYTES],
+        codes: std::ops::Range<usize>,
+        code: u16,
+    ) -> [u8; PACKET_BYTES] {
+        packet[codes].chunks_exact_mut(2).for_each(|two| two.copy_from_slice(&code.to_be_bytes()));
+        packet
+    }
+
+    #[test]
+    fn the_mark_says_by_which_edition_a_code_is_judged() {
+        // Each code with its least count in the first and in the second edition.
+        let codes: [(u16, Option<u32>, Option<u32>); 7] = [
+            (0x0FFF, Some(4_095), Some(4_095)),
+            (0x1000, None, Some(4_096)),
+            (0x17FF, None, Some(6_143)),
+            (0x1800, Some(4_096), Some(6_144)),
+            (0xCFFF, Some(16_773_120), Some(16_775_168)),
+            (0xD000, None, None),
+            (0xFFFF, None, None),
+        ];
+        for (code, first, second) in codes {
+            let rate = of_code(rate_packet(), RATE_CODES, code);
+            let beacon = of_code(beacon_packet(), BEACON_CODES, code);
+            for (mark, least) in [(0, first), (1, second), (2, None), (3, None), (255, None)] {
+                let number = if least.is_some() { DONE } else { BODY };
+                assert_eq!(changed(rate, 269, mark), number, "code {code:x}, mark {mark}");
+                assert_eq!(changed(beacon, 269, mark), number, "code {code:x}, mark {mark}");
+                let Some(least) = least else { continue };
+                let mut marked = beacon;
+                marked[269] = mark;
+                marked[271] = packet_sum(&marked);
+                let body = read(&marked).unwrap().body;
+                assert_eq!(body, Body::Beacon { mark, rates: [least; 12] });
+            }
+        }
     }
 
     #[test]

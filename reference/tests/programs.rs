@@ -172,7 +172,7 @@ fn replay_prints_a_close_and_its_packets_read_back() {
             (0..272).map(|i| u8::from_str_radix(&text[2 * i..2 * i + 2], 16).unwrap()).collect()
         })
         .collect();
-    assert_eq!(packets[0][..13], [0x0A, 0x5D, 0xC0, 0, 1, 9, 0, 0, 0, 0x3C, 0, 0x18, 0x00]);
+    assert_eq!(packets[0][..13], [0x0A, 0x5D, 0xC0, 0, 1, 9, 0, 0, 0, 0x3C, 0, 0x10, 0x01]);
     // t 300, channel 1,000, box 8, priority 1: document 01's record with another box.
     assert_eq!(packets[1][11..15], [0x96, 0x3E, 0x80, 0x11]);
 
@@ -181,14 +181,14 @@ fn replay_prints_a_close_and_its_packets_read_back() {
     assert_eq!(
         read(&packets[0]),
         format!(
-            "packet 0\nrate 0 60 0\nrates 4096{} 0 1 1 0 0 0 0 1{}\nsettings 0 0 0 0 0 500 {sum}\n",
+            "packet 0\nrate 0 60 0 1\nrates 4097{} 0 1 1 0 0 0 0 1{}\nsettings 0 0 0 0 0 500 {sum}\n",
             " 0".repeat(7),
             " 0".repeat(108)
         )
     );
     let records = digits(&[0x96, 0x3E, 0x80, 0x11], 256);
     assert_eq!(read(&packets[1]), format!("packet 0\nsample 0 60 0 0\nrecords {records}\n"));
-    assert_eq!(read(&packets[12]), format!("packet 0\nbeacon 0 60 0\nrates{}\n", " 0".repeat(12)));
+    assert_eq!(read(&packets[12]), format!("packet 0\nbeacon 0 60 0 1\nrates{}\n", " 0".repeat(12)));
     assert_eq!(run(Form::Replay, &[6, 0, 0]), "packet 11\n");
 }
 

@@ -9,8 +9,10 @@ use std::ops::Range;
 use reference::calls::{read, Call, Form};
 use reference::generate::{stories, Stream};
 use reference::listing::{first_address, listed_bytes};
+use reference::packets::{packet_sum, BEACON_CODES, RATE_CODES};
+use reference::processor::Closed;
 use reference::programs::program;
-use reference::reader;
+use reference::reader::{self, Body};
 use reference::samples::SLOTS;
 use reference::sorting::{eligible, record, sort, Event, Sorted};
 use reference::station::Station;
@@ -54,6 +56,28 @@ fn slots_of(events: &[(Event, Sorted)], junk: bool, limhi: usize) -> Vec<u32> {
     slots
 }
 
+/// Rates read back are at most the counts, and short of them by less than one part in 4,096.
+fn check_rates(output: &[u8], closed: &Closed, totals: &[u32; 8]) {
+    let (mut counts, mut rates): (Vec<u32>, Vec<u32>) = Default::default();
+    for packet in output.chunks(272) {
+        match reader::read(packet).unwrap().body {
+            Body::Rate { mark: 1, totals: read, boxes, .. } => {
+                counts.extend(totals.iter().chain(&closed.counts.boxes[1..]));
+                rates.extend(read.iter().chain(&boxes));
+            }
+            Body::Beacon { mark: 1, rates: read } => {
+                counts.extend(&closed.counts.beacons[1..]);
+                rates.extend(&read);
+            }
+            body => assert!(matches!(body, Body::Sample { .. })),
+        }
+    }
+    assert_eq!((counts.len(), rates.len()), (136, 136));
+    for (n, least) in counts.iter().zip(&rates) {
+        assert!(n == least || n > least && 4_096 * (n - least) < *n, "{n} {least}");
+    }
+}
+
 fn check_close(station: &mut Station, events: &[Event], time: u32) {
     let settings = station.processor.settings;
     let tables = station.tables.as_slice().try_into().unwrap();
@@ -61,6 +85,7 @@ fn check_close(station: &mut Station, events: &[Event], time: u32) {
         events.iter().filter_map(|event| Some((*event, sort(event, tables, &settings)?))).collect();
     let expected = slots_of(&sorted, settings.junk, settings.limhi as usize);
 
+    let totals = station.processor.totals;
     let closed = station.close(time);
     let boxes = closed.counts.boxes.map(|n| n as usize);
     let classified: usize = boxes[7..].iter().sum();
@@ -76,10 +101,11 @@ fn check_close(station: &mut Station, events: &[Event], time: u32) {
     let mut slots = Vec::new();
     for packet in station.output.chunks(272) {
         let packet = reader::read(packet).unwrap();
-        if let reader::Body::Sample { records, .. } = packet.body {
+        if let Body::Sample { records, .. } = packet.body {
             slots.extend(records.chunks(4).map(|r| u32::from_be_bytes(r.try_into().unwrap())));
         }
     }
+    check_rates(&station.output, &closed, &totals);
     assert_eq!(slots[..expected.len()], expected);
     assert!(slots[expected.len()..].iter().all(|slot| *slot == 0));
 }
@@ -129,6 +155,53 @@ fn u_of(event: &Event, station: &Station) -> Option<i32> {
     let e = word(tables, energies + s.channel as usize) - word(tables, offset);
     let t = word(tables, TIME_OF_FLIGHT + event.t as usize) - word(tables, KTOF);
     Some(e + t + 65_536)
+}
+
+/// The mark and the codes of a rate or beacon packet whose header and sum are right.
+fn mark_and_codes(packet: &[u8]) -> Option<(u8, Vec<u16>)> {
+    let codes = match packet.get(..2)? {
+        [0x0A, 0x5D] => RATE_CODES,
+        [0x0A, 0x70] => BEACON_CODES,
+        _ => return None,
+    };
+    let right = packet.len() == 272 && packet[2] >= 0xC0 && packet[4..6] == [1, 9] && packet[10] == 0;
+    if !right || packet[271] != packet_sum(packet) {
+        return None;
+    }
+    let codes = packet[codes].chunks(2).map(|two| u16::from_be_bytes([two[0], two[1]]));
+    Some((packet[269], codes.collect()))
+}
+
+#[test]
+fn codes_at_the_edges_stand_under_every_mark() {
+    let edges = [0x0FFF, 0x1000, 0x17FF, 0x1800, 0xCFFF, 0xD000, 0xFFFF];
+    let (mut seen, mut accepted) = (BTreeSet::new(), BTreeSet::new());
+    for seed in 0..60 {
+        carried_out(seed, |_, call| {
+            let Call::Packet(packet) = call else {
+                return false;
+            };
+            let Some((mark, codes)) = mark_and_codes(packet) else {
+                return true;
+            };
+            let taken = reader::read(packet).is_ok();
+            for code in codes.iter().filter(|code| edges.contains(code)) {
+                seen.insert((mark, *code));
+                if taken {
+                    accepted.insert((mark, *code));
+                }
+            }
+            true
+        });
+    }
+    for mark in [0, 1, 2, 3, 255] {
+        for code in edges {
+            assert!(seen.contains(&(mark, code)), "mark {mark}, code {code:x}");
+        }
+    }
+    let first = [0x0FFF, 0x1800, 0xCFFF].map(|code| (0, code));
+    let second = [0x0FFF, 0x1000, 0x17FF, 0x1800, 0xCFFF].map(|code| (1, code));
+    assert_eq!(accepted, first.into_iter().chain(second).collect());
 }
 
 /// A package that was placed: its addresses, and whether its sum was wrong.

@@ -36,6 +36,7 @@ fn print_rates(text: &mut [u8], at: &mut usize, rates: &[u32]) {
 fn print_rate(text: &mut [u8], at: &mut usize, p: Packet) {
     buffered::text::bytes(text, at, b"rate");
     print_header(text, at, p);
+    buffered::text::number(text, at, p.mark as u64);
     buffered::text::line_end(text, at);
     print_rates(text, at, &p.rates);
     print_settings(text, at, p.settings, p.sum);
@@ -58,6 +59,7 @@ fn print_sample(text: &mut [u8], at: &mut usize, p: Packet, packet: &[u8]) {
 fn print_beacon(text: &mut [u8], at: &mut usize, p: Packet) {
     buffered::text::bytes(text, at, b"beacon");
     print_header(text, at, p);
+    buffered::text::number(text, at, p.mark as u64);
     buffered::text::line_end(text, at);
     print_rates(text, at, &p.beacons);
 }

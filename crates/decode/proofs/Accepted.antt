@@ -17,7 +17,8 @@ use Rattle.settings.specs.declared.Settings.{Settings}
 use Rattle.settings.specs.Settings.{slotCount}
 use Rattle.sample_record.specs.Record.{recordGood}
 use Rattle.packet.specs.declared.stamp.Stamp.{Stamp}
-use Rattle.rate_code.specs.Rate.{countLimit, rateCode, leastCount, codeValid}
+use Rattle.rate_code.specs.Rate.{countLimit}
+use Rattle.rate_code.specs.Editions.{secondMark, codeBy, leastBy, validBy}
 use Rattle.packet.specs.Layout.{bodyAt, innerBytes, secondaryFlag, bodyBytes, codeBytes}
 use Rattle.packet.specs.Layout.{rateCount, recordCount, beaconCount, beaconEnd, beaconUnused}
 use Rattle.packet.specs.Layout.{gapAt, hvstepAt, limhiAt, hvFlag, eonlyFlag, toferrorFlag, junkFlag}
@@ -25,10 +26,10 @@ use Rattle.packet.specs.Packet.{rateApplication, sampleApplication, beaconAppli
 use Rattle.packet.specs.Packet.{codes, settingsFlags, settingsBytes, rateBody, beaconBody}
 use Rattle.decode.specs.declared.kind.Kind.{Kind}
 use Rattle.decode.specs.declared.kind.Kind.the-variants.{Rate, Sample, Beacon}
-use Rattle.decode.specs.Read.{applicationOf, kindOf, isKind, flagByte, ratesOf, settingsOf, sumOf, lastOf, unmarked}
+use Rattle.decode.specs.Read.{applicationOf, kindOf, isKind, flagByte, ratesOf, settingsOf, sumOf, markOf, lastOf, endGood}
 use Rattle.decode.specs.Read.{codesGood, zerosGood, recordsGood, rateGood, sampleGood, beaconGood, bodyGood, readNumber}
 use Rattle.packet.specs.Ranges.{StampFits, RateValues, SampleValues, BeaconValues}
-use Rattle.rate_code.proofs.Codes.{code-valid}
+use Rattle.rate_code.proofs.EditionLaws.{by-valid}
 use Rattle.packet.proofs.Written.{length-codes, codes-append, length-inner}
 use Rattle.packet.proofs.Written.{length-rate-body, length-sample-body, length-beacon-body}
 use Rattle.decode.proofs.Reading.{accepted-is}
@@ -82,46 +83,49 @@ module _ (a : ℕ) (st : Stamp) (body : List ℕ) (lb : length body ≡ bodyByte
       (ap (λ (x : Kind). bodyGood x P) (kind-back k e) ∙ g)
 
   -- codes that counts have are without fault, and give the counts' least counts
-  codes-back : (ns rest : List ℕ) → body ≡ codes ns ++ rest → EachBelow countLimit ns → (n : ℕ) → length ns ≡ n
-      → (codesGood n P ≡ true) × (ratesOf n P ≡ map (λ c. leastCount (rateCode c)) ns)
+  codes-back : (ns rest : List ℕ) → body ≡ codes (st .mark) ns ++ rest → EachBelow countLimit ns → (n : ℕ) → length ns ≡ n
+      → (codesGood n P ≡ true) × (ratesOf n P ≡ map (λ c. leastBy (st .mark) (codeBy (st .mark) c)) ns)
   unfolding codesGood ratesOf
   codes-back ns rest e h n l =
-      let code = back.code-back a st body lb ns rest e in (
-        each-all _ n (λ i q. ap codeValid (code i (omega arith)) ∙ code-valid _ (h i)),
-        table-is _ n _ (length-map ns (λ c. leastCount (rateCode c)) ∙ l) (λ i q.
-            let k : i < length ns = omega arith in
-            ap leastCount (code i k) ∙ sym (map-at (λ c. leastCount (rateCode c)) ns i k)),
+      let m = back.mark-back a st body lb in
+      let code = back.code-back a st body lb (st .mark) ns rest e in (
+        each-all _ n (λ i q. (λ k. validBy (m k) (code i (omega arith) k)) ∙ by-valid (st .mark) _ (h i)),
+        table-is _ n _ (length-map ns (λ c. leastBy (st .mark) (codeBy (st .mark) c)) ∙ l) (λ i q.
+            let j : i < length ns = omega arith in
+            (λ k. leastBy (m k) (code i j k)) ∙ sym (map-at (λ c. leastBy (st .mark) (codeBy (st .mark) c)) ns i j)),
       )
 
   last-zero : (marks : ℕ) → StampFits marks st → lastOf P ≡ 0
   last-zero marks h = back.last-back a st body lb ∙ h .last-is
 
-  unmarked-back : StampFits 0 st → unmarked P ≡ true
-  unmarked-back h = both (eq-eqb _ _ (back.mark-back a st body lb ∙ omega (arith, h .mark-fits))) (eq-eqb _ _ (last-zero 0 h))
+  end-back : StampFits secondMark st → endGood P ≡ true
+  end-back h =
+      both (le-leb (markOf P) secondMark (omega (arith, back.mark-back a st body lb, h .mark-fits)))
+      (eq-eqb _ _ (last-zero secondMark h))
 
 -- ---- a rate packet
 
 pub flags-le : (s : Settings) → (bitOf (s .hv) ≤ 1) × (bitOf (s .eonly) ≤ 1) × (bitOf (s .toferror) ≤ 1) × (bitOf (s .junk) ≤ 1)
 flags-le s = (bit-small (s .hv), bit-small (s .eonly), bit-small (s .toferror), bit-small (s .junk))
 
-module _ (st : Stamp) (fits : StampFits 0 st) (totals boxes : List ℕ) (s : Settings) (sum : ℕ) (v : RateValues totals boxes s sum) where
+module _ (st : Stamp) (fits : StampFits secondMark st) (totals boxes : List ℕ) (s : Settings) (sum : ℕ) (v : RateValues totals boxes s sum) where
   abbrev rate-body : List ℕ
-  rate-body = rateBody totals boxes s sum
+  rate-body = rateBody (st .mark) totals boxes s sum
 
   abbrev rate-is : List ℕ
   rate-is = packetOf rateApplication st rate-body
 
   pub rate-length : length rate-body ≡ bodyBytes
-  rate-length = length-rate-body totals boxes s sum (v .totals-are) (v .boxes-are)
+  rate-length = length-rate-body (st .mark) totals boxes s sum (v .totals-are) (v .boxes-are)
 
   length-counts : length (totals ++ boxes) ≡ rateCount
   length-counts = length-append totals boxes ∙ omega (arith, v .totals-are, v .boxes-are)
 
-  rate-split : rate-body ≡ codes (totals ++ boxes) ++ settingsBytes s sum
-  rate-split = ap (λ (l : List ℕ). l ++ settingsBytes s sum) (codes-append totals boxes)
+  rate-split : rate-body ≡ codes (st .mark) (totals ++ boxes) ++ settingsBytes s sum
+  rate-split = ap (λ (l : List ℕ). l ++ settingsBytes s sum) (codes-append (st .mark) totals boxes)
 
   pub rate-codes : (codesGood rateCount rate-is ≡ true)
-      × (ratesOf rateCount rate-is ≡ map (λ c. leastCount (rateCode c)) (totals ++ boxes))
+      × (ratesOf rateCount rate-is ≡ map (λ c. leastBy (st .mark) (codeBy (st .mark) c)) (totals ++ boxes))
   rate-codes =
       codes-back rateApplication st rate-body rate-length (omega arith) (totals ++ boxes) (settingsBytes s sum) rate-split
       (each-append countLimit totals boxes (v .totals-fit) (v .boxes-fit)) rateCount length-counts
@@ -130,8 +134,8 @@ module _ (st : Stamp) (fits : StampFits 0 st) (totals boxes : List ℕ) (s : Set
   settings-at j h =
       back.body-at rateApplication st rate-body rate-length (codeBytes * rateCount + j) (omega arith)
       ∙ ap (λ (b : List ℕ). getD b (codeBytes * rateCount + j) 0) rate-split
-      ∙ behind (codes (totals ++ boxes)) (settingsBytes s sum) (codeBytes * rateCount) j
-      (length-codes (totals ++ boxes) ∙ omega (arith, length-counts))
+      ∙ behind (codes (st .mark) (totals ++ boxes)) (settingsBytes s sum) (codeBytes * rateCount) j
+      (length-codes (st .mark) (totals ++ boxes) ∙ omega (arith, length-counts))
 
   gap-back : getD rate-is gapAt 0 ≡ 0
   unfolding settingsBytes
@@ -176,7 +180,7 @@ module _ (st : Stamp) (fits : StampFits 0 st) (totals boxes : List ℕ) (s : Set
       (eq-eqb _ _ gap-back))
       (eq-eqb _ _ (ap (λ (n : ℕ). n % junkFlag) flags-back ∙ omega arith)))
       (le-leb (at16 rate-is limhiAt) slotCount (omega (arith, limhi-back, v .limhi-fits))))
-      (unmarked-back rateApplication st rate-body rate-length (omega arith) fits)
+      (end-back rateApplication st rate-body rate-length (omega arith) fits)
 
   pub rate-number : readNumber rate-is ≡ 0
   unfolding bodyGood
@@ -223,18 +227,18 @@ module _ (st : Stamp) (fits : StampFits lastSample st) (records : List ℕ) (v :
 
 -- ---- a beacon packet
 
-module _ (st : Stamp) (fits : StampFits 0 st) (beacons : List ℕ) (v : BeaconValues beacons) where
+module _ (st : Stamp) (fits : StampFits secondMark st) (beacons : List ℕ) (v : BeaconValues beacons) where
   abbrev beacon-body : List ℕ
-  beacon-body = beaconBody beacons
+  beacon-body = beaconBody (st .mark) beacons
 
   abbrev beacon-is : List ℕ
   beacon-is = packetOf beaconApplication st beacon-body
 
   pub beacon-length : length beacon-body ≡ bodyBytes
-  beacon-length = length-beacon-body beacons (v .beacons-are)
+  beacon-length = length-beacon-body (st .mark) beacons (v .beacons-are)
 
   pub beacon-codes : (codesGood beaconCount beacon-is ≡ true)
-      × (ratesOf beaconCount beacon-is ≡ map (λ c. leastCount (rateCode c)) beacons)
+      × (ratesOf beaconCount beacon-is ≡ map (λ c. leastBy (st .mark) (codeBy (st .mark) c)) beacons)
   beacon-codes =
       codes-back beaconApplication st beacon-body beacon-length (omega arith) beacons (zeros beaconUnused) refl
       (v .beacons-fit) beaconCount (v .beacons-are)
@@ -246,13 +250,14 @@ module _ (st : Stamp) (fits : StampFits 0 st) (beacons : List ℕ) (v : BeaconVa
       let q : beaconEnd + i ≡ bodyAt + (codeBytes * beaconCount + i) = omega arith in
       eq-eqb _ _ (ap (λ (n : ℕ). getD beacon-is n 0) q
       ∙ back.body-at beaconApplication st beacon-body beacon-length (codeBytes * beaconCount + i) (omega arith)
-      ∙ behind (codes beacons) (zeros beaconUnused) (codeBytes * beaconCount) i (length-codes beacons ∙ omega (arith, v .beacons-are))
+      ∙ behind (codes (st .mark) beacons) (zeros beaconUnused) (codeBytes * beaconCount) i
+      (length-codes (st .mark) beacons ∙ omega (arith, v .beacons-are))
       ∙ getD-replicate beaconUnused i 0 0 h))
 
   beacon-good-back : beaconGood beacon-is ≡ true
   unfolding beaconGood
   beacon-good-back =
-      both (both (beacon-codes .0) unused-back) (unmarked-back beaconApplication st beacon-body beacon-length (omega arith) fits)
+      both (both (beacon-codes .0) unused-back) (end-back beaconApplication st beacon-body beacon-length (omega arith) fits)
 
   pub beacon-number : readNumber beacon-is ≡ 0
   unfolding bodyGood

@@ -13,7 +13,7 @@ use Rattle.wire.specs.Pieces.{runs}
 use Rattle.wire.proofs.Bytes.{value16, value32}
 use Rattle.wire.proofs.Pieces.{length-runs, runs-at, words-runs}
 use Rattle.packet.specs.declared.stamp.Stamp.{Stamp}
-use Rattle.rate_code.specs.Rate.{rateCode}
+use Rattle.rate_code.specs.Editions.{codeBy}
 use Rattle.packet.specs.Layout.{applicationAt, sequenceAt, lengthAt, zeroAt, bodyAt, innerBytes, sumAt, bodyBytes}
 use Rattle.packet.specs.Layout.{secondaryFlag, sequenceFlags, sequenceCounts, lengthField}
 use Rattle.packet.specs.Packet.{header, summed, enveloped, trailer, packetOf, codes}
@@ -147,14 +147,15 @@ module _ (a : ℕ) (st : Stamp) (body : List ℕ) (lb : length body ≡ bodyByte
       ∙ runs-at piece k size xs i j h l
 
   -- code i, and record i
-  pub code-back : (ns rest : List ℕ) → body ≡ codes ns ++ rest → (i : ℕ) → i < length ns → codeAt P i ≡ rateCode (getD ns i 0)
+  pub code-back : (mark : ℕ) (ns rest : List ℕ) → body ≡ codes mark ns ++ rest → (i : ℕ) → i < length ns
+      → codeAt P i ≡ codeBy mark (getD ns i 0)
   unfolding codes
-  code-back ns rest e i h =
-      let c : (j at : ℕ) → j < 2 → at ≡ bodyAt + (2 * i + j) → getD P at 0 ≡ getD (be16 (rateCode (getD ns i 0))) j 0 =
-      λ j at. piece-at (λ n. be16 (rateCode n)) 2 (λ n. refl) ns rest e i j at h in
+  code-back mark ns rest e i h =
+      let c : (j at : ℕ) → j < 2 → at ≡ bodyAt + (2 * i + j) → getD P at 0 ≡ getD (be16 (codeBy mark (getD ns i 0))) j 0 =
+      λ j at. piece-at (λ n. be16 (codeBy mark n)) 2 (λ n. refl) ns rest e i j at h in
       let e₀ = c 0 (bodyAt + 2 * i) (omega arith) (omega arith) in
       let e₁ = c 1 (bodyAt + 2 * i + 1) (omega arith) (omega arith) in
-      (λ k. 256 * e₀ k + e₁ k) ∙ value16 (rateCode (getD ns i 0))
+      (λ k. 256 * e₀ k + e₁ k) ∙ value16 (codeBy mark (getD ns i 0))
 
   pub record-back : (ws : List ℕ) → body ≡ words ws → (i : ℕ) → i < length ws → recordAt P i ≡ getD ws i 0
   record-back ws e i h =

@@ -14,7 +14,8 @@ use Rattle.causes.proofs.CheckLaws.{number-lowest}
 use Rattle.wire.specs.Bytes.{one, total, be16, be32, words}
 use Rattle.wire.specs.Lists.{EachBelow}
 use Rattle.settings.specs.declared.Settings.{Settings}
-use Rattle.rate_code.specs.Rate.{countLimit, rateCode}
+use Rattle.rate_code.specs.Rate.{countLimit}
+use Rattle.rate_code.specs.Editions.{codeBy}
 use Rattle.wire.specs.Pieces.{runs}
 use Rattle.packet.specs.declared.stamp.Stamp.{Stamp}
 use Rattle.packet.specs.Layout.{sumAt, packetBytes, secondaryFlag}
@@ -23,7 +24,7 @@ use Rattle.decode.specs.Read.{sumGood, readChecks, readNumber}
 use Rattle.packet.specs.Ranges.{StampFits}
 use Rattle.wire.proofs.Lists.{each-append}
 use Rattle.wire.proofs.Pieces.{words-runs}
-use Rattle.rate_code.proofs.Codes.{code-fits}
+use Rattle.rate_code.proofs.EditionLaws.{by-fits}
 use Rattle.decode.proofs.Accepted.{flags-le}
 
 -- ---- the sum of a list with another number at i
@@ -97,9 +98,9 @@ bytes-runs piece m h [] l = λ k. omega arith
 bytes-runs piece m h (x ∷ xs) l =
     each-append 256 (piece x) (runs piece xs) (bytes-below (piece x) (h x (l 0))) (bytes-runs piece m h xs (λ k. l (suc k)))
 
-pub bytes-codes : (ns : List ℕ) → EachBelow countLimit ns → EachBelow 256 (codes ns)
+pub bytes-codes : (mark : ℕ) (ns : List ℕ) → EachBelow countLimit ns → EachBelow 256 (codes mark ns)
 unfolding codes
-bytes-codes ns h = bytes-runs (λ n. be16 (rateCode n)) countLimit (λ n l. omega (arith, code-fits n l)) ns h
+bytes-codes mark ns h = bytes-runs (λ n. be16 (codeBy mark n)) countLimit (λ n l. omega (arith, by-fits mark n l)) ns h
 
 pub bytes-words : (ws : List ℕ) → EachBelow 4294967296 ws → EachBelow 256 (words ws)
 bytes-words ws h = rw (words-runs ws) (bytes-runs be32 4294967296 (λ w l. omega arith) ws h)

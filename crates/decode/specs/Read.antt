@@ -13,7 +13,7 @@ use Rattle.wire.specs.Pieces.{table, each}
 use Rattle.settings.specs.declared.Settings.{Settings}
 use Rattle.settings.specs.Settings.{slotCount}
 use Rattle.sample_record.specs.Record.{recordGood}
-use Rattle.rate_code.specs.Rate.{leastCount, codeValid}
+use Rattle.rate_code.specs.Editions.{secondMark, leastBy, validBy}
 use Rattle.packet.specs.Layout.{applicationAt, sequenceAt, lengthAt, timeAt, zeroAt, bodyAt, sumAt, packetBytes}
 use Rattle.packet.specs.Layout.{frameAt, markAt, lastAt}
 use Rattle.packet.specs.Layout.{secondaryFlag, sequenceFlags, sequenceCounts, lengthField}
@@ -65,9 +65,9 @@ codeAt xs i = at16 xs (bodyAt + codeBytes * i)
 abbrev pub recordAt : List ℕ → ℕ → ℕ
 recordAt xs i = at32 xs (bodyAt + recordBytes * i)
 
--- the least counts of the first n codes
+-- the least counts of the first n codes, in the edition of the packet's mark
 unfoldable pub ratesOf : ℕ → List ℕ → List ℕ
-ratesOf n xs = table n (λ i. leastCount (codeAt xs i))
+ratesOf n xs = table n (λ i. leastBy (markOf xs) (codeAt xs i))
 
 abbrev pub flagByte : List ℕ → ℕ
 flagByte xs = getD xs flagsAt 0
@@ -110,9 +110,10 @@ sumGood xs = eqb (getD xs sumAt 0) (total (take sumAt xs) % 256)
 
 -- ---- 13: "packet body with a fault"
 
--- no "code with s ≥ 1 and quotient below 2,048 or s above 12" among the first n
+-- no "code with s ≥ 1 and quotient below 2,048 or s above 12" among the first n, "those from D000 hex on being wrong in the
+-- second" edition (document 02, Point 5: "13 judges codes by that byte")
 unfoldable pub codesGood : ℕ → List ℕ → Bool
-codesGood n xs = each n (λ i. codeValid (codeAt xs i))
+codesGood n xs = each n (λ i. validBy (markOf xs) (codeAt xs i))
 
 -- no "non-zero byte .. that has no use above" among the n bytes from `at` on
 unfoldable pub zerosGood : ℕ → ℕ → List ℕ → Bool
@@ -122,9 +123,9 @@ zerosGood at n xs = each n (λ i. eqb (getD xs (at + i) 0) 0)
 unfoldable pub recordsGood : ℕ → List ℕ → Bool
 recordsGood n xs = each n (λ i. recordGood (recordAt xs i))
 
--- bytes 269 and 270 have no use but p's
-abbrev pub unmarked : List ℕ → Bool
-unmarked xs = eqb (markOf xs) 0 && eqb (lastOf xs) 0
+-- byte 269 is the mark of an edition (document 02, Point 5); byte 270 has no use
+abbrev pub endGood : List ℕ → Bool
+endGood xs = leb (markOf xs) secondMark && eqb (lastOf xs) 0
 
 -- byte 259 and the flags below junk's have no use in a rate packet; "LIMHI over 704" is a fault
 unfoldable pub rateGood : List ℕ → Bool
@@ -133,7 +134,7 @@ rateGood xs =
     && eqb (getD xs gapAt 0) 0
     && eqb (flagByte xs % junkFlag) 0
     && leb (at16 xs limhiAt) slotCount
-    && unmarked xs
+    && endGood xs
 
 -- "application number other than 606 + p" is a fault; byte 270 has no use
 unfoldable pub sampleGood : List ℕ → Bool
@@ -142,7 +143,7 @@ sampleGood xs =
 
 -- bytes 35 to 266 have no use
 unfoldable pub beaconGood : List ℕ → Bool
-beaconGood xs = codesGood beaconCount xs && zerosGood beaconEnd beaconUnused xs && unmarked xs
+beaconGood xs = codesGood beaconCount xs && zerosGood beaconEnd beaconUnused xs && endGood xs
 
 unfoldable pub bodyGood : Kind → List ℕ → Bool
 bodyGood Rate xs = rateGood xs

@@ -4,7 +4,7 @@ ghost use Prim.Native.Nat.{_+_, _*_, _≤_};
 ghost use lib.ListN.{length};
 ghost use Rattle.packet.specs.Layout.{packetBytes, bodyAt, codeBytes, recordBytes};
 ghost use Rattle.decode.specs.Read.{fieldsGood, headerGood, sumGood, codesGood, zerosGood, recordsGood};
-ghost use Rattle.decode.specs.Read.{unmarked, rateGood, sampleGood, beaconGood, bodyGood, readNumber};
+ghost use Rattle.decode.specs.Read.{endGood, rateGood, sampleGood, beaconGood, bodyGood, readNumber};
 use crate::fields::application;
 use crate::kind::Kind;
 use crate::kind::is_kind;
@@ -12,6 +12,7 @@ use crate::kind::kind_of;
 use causes::unless;
 use packet::applications::SAMPLE_APPLICATION;
 use packet::layout;
+use rate_code::editions;
 use wire::read::u16_at;
 
 // The header's fields, but for the application number, the sequence count and the time.
@@ -45,15 +46,17 @@ pub fn sum_good(packet: &[u8]) -> bool
     packet[layout::SUM_AT] == (sum % 256) as u8
 }
 
-// Whether the first n codes are ones that counts have.
+// Whether the first n codes are ones that counts have, in the edition of the packet's mark.
 fn codes_good(packet: &[u8], n: usize) -> bool
-    requires { ⌜ bodyAt + codeBytes * n ≤ length (now packet) ⌝ }
+    requires { ⌜ (length (now packet) ≡ packetBytes) × (bodyAt + codeBytes * n ≤ packetBytes) ⌝ }
     ensures { λ r. ⌜ r ≡ codesGood n (now (packet .entry)) ⌝ }
 {
+    let mark = packet[layout::MARK_AT];
     let mut good = true;
     let mut i: usize = 0;
     while i < n {
-        good = good & rate_code::valid(u16_at(packet, layout::BODY_AT + layout::CODE_BYTES * i));
+        let code = u16_at(packet, layout::BODY_AT + layout::CODE_BYTES * i);
+        good = good & editions::valid(mark, code);
         i += 1;
     }
     good
@@ -91,12 +94,12 @@ fn records_good(packet: &[u8], n: usize) -> bool
     good
 }
 
-// Whether the bytes behind the frame are zero.
-fn unmarked(packet: &[u8]) -> bool
+// Whether the bytes behind the frame are the mark of an edition and a zero.
+fn end_good(packet: &[u8]) -> bool
     requires { ⌜ length (now packet) ≡ packetBytes ⌝ }
-    ensures { λ r. ⌜ r ≡ unmarked (now (packet .entry)) ⌝ }
+    ensures { λ r. ⌜ r ≡ endGood (now (packet .entry)) ⌝ }
 {
-    (packet[layout::MARK_AT] == 0) & (packet[layout::LAST_AT] == 0)
+    (packet[layout::MARK_AT] <= editions::SECOND_MARK) & (packet[layout::LAST_AT] == 0)
 }
 
 // The body of a rate packet: its codes, LIMHI, and what has no use.
@@ -108,7 +111,7 @@ fn rate_good(packet: &[u8]) -> bool
         & (packet[layout::GAP_AT] == 0)
         & (packet[layout::FLAGS_AT] % layout::JUNK == 0)
         & (u16_at(packet, layout::LIMHI_AT) <= settings::SLOTS)
-        & unmarked(packet)
+        & end_good(packet)
 }
 
 // The body of a sample packet: its p, its records, and what has no use.
@@ -128,7 +131,7 @@ fn beacon_good(packet: &[u8]) -> bool
 {
     codes_good(packet, layout::BEACONS)
         & zeros_good(packet, layout::BEACON_END, layout::BEACON_UNUSED)
-        & unmarked(packet)
+        & end_good(packet)
 }
 
 fn body_good(kind: Kind, packet: &[u8]) -> bool

@@ -42,18 +42,17 @@ pub fn settings(packet: &[u8]) -> Settings
     }
 }
 
-// The least counts of the packet's first codes, as many as there is room for.
+// The least counts of the packet's first codes, as many as there is room for, in the edition of its mark.
 pub fn rates(packet: &[u8], counts: &mut [u32])
-    requires { ⌜ bodyAt + codeBytes * length (now counts) ≤ length (now packet) ⌝ }
+    requires { ⌜ (length (now packet) ≡ packetBytes) × (bodyAt + codeBytes * length (now counts) ≤ packetBytes) ⌝ }
     requires { ⌜ codesGood (length (now counts)) (now packet) ≡ true ⌝ }
     ensures { λ _. ⌜ now (counts .exit) ≡ ratesOf (length (now (counts .entry))) (now (packet .entry)) ⌝ }
 {
+    let mark = packet[layout::MARK_AT];
     let mut i: usize = 0;
     while i < counts.len() {
-        counts[i] = rate_code::least_count(u16_at(
-            packet,
-            layout::BODY_AT + layout::CODE_BYTES * i,
-        ));
+        let code = u16_at(packet, layout::BODY_AT + layout::CODE_BYTES * i);
+        counts[i] = rate_code::editions::least_count(mark, code);
         i += 1;
     }
 }

@@ -16,6 +16,7 @@ use Rattle.wire.proofs.Lists.{decide, each-part, all-part}
 use Rattle.wire.proofs.Pieces.{words-append}
 use Rattle.settings.specs.Settings.{slotCount}
 use Rattle.sample_record.specs.Record.{recordGood}
+use Rattle.rate_code.specs.Editions.{secondMark}
 use Rattle.packet.specs.Packet.{packetBytes, lastSample, stampOf, ratePacket, samplePacket, beaconPacket}
 use Rattle.packet.specs.Ranges.{StampFits, SampleValues}
 use Rattle.packet.specs.TableSum.{tableSum}
@@ -51,7 +52,7 @@ module _ (e : Ended) (f : Fits e) where
   }
 
   abbrev rate : List ℕ
-  rate = ratePacket (stampOf (e .frame) (e .time) 0) (e .totals) (e .counts .boxes) (e .settings) (tableSum (e .tables))
+  rate = ratePacket (stampOf (e .frame) (e .time) secondMark) (e .totals) (e .counts .boxes) (e .settings) (tableSum (e .tables))
 
   abbrev slotsIn : ℕ → List ℕ
   slotsIn p = take 64 (drop (64 * p) (e .slots))
@@ -63,7 +64,7 @@ module _ (e : Ended) (f : Fits e) where
   samples n = samplesOf (e .frame) (e .time) (e .slots) n
 
   abbrev beacon : List ℕ
-  beacon = beaconPacket (stampOf (e .frame) (e .time) 0) (e .counts .beacons)
+  beacon = beaconPacket (stampOf (e .frame) (e .time) secondMark) (e .counts .beacons)
 
   rate-length : length rate ≡ packetBytes
   rate-length =
@@ -140,7 +141,7 @@ module _ (e : Ended) (f : Fits e) where
 
 pub packets-received : PacketsReceived
 packets-received e f =
-    let stamped : StampFits 0 (stampOf (e .frame) (e .time) 0) = stamp-fits e f 0 0 (omega arith) in
+    let stamped : StampFits secondMark (stampOf (e .frame) (e .time) secondMark) = stamp-fits e f secondMark secondMark (omega arith) in
     let all-slots : length (e .slots) ≤ 64 * samplePackets = omega (arith, f .slots-are) in
     record {
       whole = packets-length e f;

@@ -14,6 +14,7 @@ use Rattle.counts.specs.declared.Counts.{Counts}
 use Rattle.tables.specs.Tables.{tableBytes}
 use Rattle.load.specs.Staging.{stagingBytes}
 use Rattle.packet.specs.Layout.{packetBytes, totalCount, boxCount, beaconCount}
+use Rattle.rate_code.specs.Editions.{secondMark}
 use Rattle.packet.specs.Packet.{lastSample, stampOf}
 use Rattle.packet.specs.Ranges.{RateValues, BeaconValues}
 use Rattle.packet.specs.TableSum.{tableSum}
@@ -74,13 +75,13 @@ pub record Received (e : Ended) (out : List ℕ) : Type 0 where
   pub whole : length out ≡ outBytes
   -- kind rate: totals and boxes as least counts, the settings, the sum of the tables
   pub rates : readOf (packetAt out ratePlace)
-      ≡ rateRead (stampOf (e .frame) (e .time) 0) (e .totals) (e .counts .boxes) (e .settings) (tableSum (e .tables))
+      ≡ rateRead (stampOf (e .frame) (e .time) secondMark) (e .totals) (e .counts .boxes) (e .settings) (tableSum (e .tables))
   -- kind sample, with its p
   pub samples : (p : ℕ) → p ≤ lastSample → readOf (packetAt out (samplePlace p)) ≡ sampleRead (stampOf (e .frame) (e .time) p)
   -- the records of the eleven, joined, are the slots
   pub records : recordsRead out samplePackets ≡ words (e .slots)
   -- kind beacon: the beacons as least counts
-  pub beacons : readOf (packetAt out beaconPlace) ≡ beaconRead (stampOf (e .frame) (e .time) 0) (e .counts .beacons)
+  pub beacons : readOf (packetAt out beaconPlace) ≡ beaconRead (stampOf (e .frame) (e .time) secondMark) (e .counts .beacons)
 
 -- ---- of any thirteen packets whose values are in their ranges
 

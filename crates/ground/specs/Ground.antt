@@ -27,6 +27,7 @@ refused n =
       sequence = 0;
       time = 0;
       frame = 0;
+      mark = 0;
       rates = zeros rateCount;
       settings = noSettings;
       sum = 0;
@@ -35,8 +36,8 @@ refused n =
     }
 
 -- an accepted one: "The reader returns kind, header and frame number", with what its kind has
-unfoldable pub accepted : Kind → List ℕ → List ℕ → Settings → ℕ → List ℕ → ℕ → Packet
-accepted kind xs rates settings sum beacons p =
+unfoldable pub accepted : Kind → List ℕ → (mark : ℕ) → List ℕ → Settings → ℕ → List ℕ → ℕ → Packet
+accepted kind xs mark rates settings sum beacons p =
     record {
       number = carriedOut;
       kind = kind;
@@ -44,6 +45,7 @@ accepted kind xs rates settings sum beacons p =
       sequence = sequenceOf xs;
       time = timeOf xs;
       frame = frameOf xs;
+      mark = mark;
       rates = rates;
       settings = settings;
       sum = sum;
@@ -51,11 +53,12 @@ accepted kind xs rates settings sum beacons p =
       p = p;
     }
 
--- ".. with a rate packet's rates, settings and table sum, a beacon's rates, or p"; what a kind has not is zero
+-- ".. with a rate packet's rates, settings and table sum, a beacon's rates, or p", and the mark of rates (document 02, Point 5);
+-- what a kind has not is zero
 unfoldable pub contents : Kind → List ℕ → Packet
-contents Rate xs = accepted Rate xs (ratesOf rateCount xs) (settingsOf xs) (sumOf xs) (zeros beaconCount) 0
-contents Sample xs = accepted Sample xs (zeros rateCount) noSettings 0 (zeros beaconCount) (markOf xs)
-contents Beacon xs = accepted Beacon xs (zeros rateCount) noSettings 0 (ratesOf beaconCount xs) 0
+contents Rate xs = accepted Rate xs (markOf xs) (ratesOf rateCount xs) (settingsOf xs) (sumOf xs) (zeros beaconCount) 0
+contents Sample xs = accepted Sample xs 0 (zeros rateCount) noSettings 0 (zeros beaconCount) (markOf xs)
+contents Beacon xs = accepted Beacon xs (markOf xs) (zeros rateCount) noSettings 0 (ratesOf beaconCount xs) 0
 contents None xs = refused carriedOut
 
 -- what `read` answers

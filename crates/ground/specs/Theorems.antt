@@ -7,29 +7,32 @@ use mathlib.Core.Bool.{true}
 use mathlib.Core.List.{List, [], _++_, map}
 use lib.ListN.{length, getD, set}
 use Rattle.causes.specs.Causes.{carriedOut, noHeader, packetSum}
-use Rattle.wire.specs.Bytes.{words, zeros}
+use Rattle.wire.specs.Bytes.{be16, words, zeros}
 use Rattle.wire.specs.Lists.{EachBelow}
+use Rattle.wire.specs.Pieces.{runs, table, each}
 use Rattle.settings.specs.declared.Settings.{Settings}
 use Rattle.decode.specs.declared.kind.Kind.{Kind}
 use Rattle.decode.specs.declared.kind.Kind.the-variants.{Rate, Sample, Beacon}
 use Rattle.packet.specs.declared.stamp.Stamp.{Stamp}
-use Rattle.rate_code.specs.Rate.{rateCode, leastCount}
-use Rattle.packet.specs.Layout.{packetBytes, rateCount, beaconCount}
-use Rattle.packet.specs.Packet.{rateApplication, sampleApplication, beaconApplication, lastSample, ratePacket, samplePacket, beaconPacket}
-use Rattle.decode.specs.Read.{sumGood}
+use Rattle.rate_code.specs.Rate.{rateCode, leastCount, codeValid}
+use Rattle.rate_code.specs.Editions.{secondMark, codeBy, leastBy}
+use Rattle.packet.specs.Layout.{packetBytes, rateCount, beaconCount, beaconUnused}
+use Rattle.packet.specs.Packet.{rateApplication, sampleApplication, beaconApplication, lastSample, packetOf, settingsBytes}
+use Rattle.packet.specs.Packet.{ratePacket, samplePacket, beaconPacket}
+use Rattle.decode.specs.Read.{markOf, codeAt, ratesOf, codesGood, sumGood}
 use Rattle.packet.specs.Ranges.{StampFits, RateValues, SampleValues, BeaconValues}
 use Rattle.ground.specs.declared.Packet.{Packet}
 use Rattle.ground.specs.Ground.{noSettings, refused, readOf, recordsOf}
 
 -- ---- reading back
 
--- each count as its code's least count
-abbrev pub leastCounts : List ℕ → List ℕ
-leastCounts counts = map (λ n. leastCount (rateCode n)) counts
+-- each count as its code's least count, in the mark's edition
+abbrev pub leastCounts : (mark : ℕ) → List ℕ → List ℕ
+leastCounts mark counts = map (λ n. leastBy mark (codeBy mark n)) counts
 
 -- every packet gives back its kind and application number and what it was stamped with, beside what its kind has
-abbrev pub stampRead : Kind → (application : ℕ) → Stamp → (rates : List ℕ) → Settings → (sum : ℕ) → (beacons : List ℕ) → (p : ℕ) → Packet
-stampRead kind application stamp rates s sum beacons p =
+abbrev pub stampRead : Kind → (application : ℕ) → Stamp → (mark : ℕ) (rates : List ℕ) → Settings → (sum : ℕ) → (beacons : List ℕ) → (p : ℕ) → Packet
+stampRead kind application stamp mark rates s sum beacons p =
     record {
       number = carriedOut;
       kind = kind;
@@ -37,6 +40,7 @@ stampRead kind application stamp rates s sum beacons p =
       sequence = stamp .sequence;
       time = stamp .time;
       frame = stamp .frame;
+      mark = mark;
       rates = rates;
       settings = s;
       sum = sum;
@@ -44,21 +48,22 @@ stampRead kind application stamp rates s sum beacons p =
       p = p;
     }
 
--- a rate packet gives back settings and table sum, and the counts as least counts
+-- a rate packet of either edition gives back its mark, settings and table sum, and the counts as least counts: one of the archive,
+-- whose mark is 0, those of the first edition
 abbrev pub rateRead : Stamp → (totals boxes : List ℕ) → Settings → (sum : ℕ) → Packet
 rateRead stamp totals boxes s sum =
-    stampRead Rate rateApplication stamp (leastCounts (totals ++ boxes)) s sum (zeros beaconCount) 0
+    stampRead Rate rateApplication stamp (stamp .mark) (leastCounts (stamp .mark) (totals ++ boxes)) s sum (zeros beaconCount) 0
 
 abbrev pub RateBack : Type 0
 RateBack =
-    (stamp : Stamp) (totals boxes : List ℕ) (s : Settings) (sum : ℕ) → StampFits 0 stamp → RateValues totals boxes s sum
+    (stamp : Stamp) (totals boxes : List ℕ) (s : Settings) (sum : ℕ) → StampFits secondMark stamp → RateValues totals boxes s sum
     → (readOf (ratePacket stamp totals boxes s sum) ≡ rateRead stamp totals boxes s sum)
     × (recordsOf (ratePacket stamp totals boxes s sum) ≡ [])
 
 -- a sample packet gives back p, and exactly the record bytes
 abbrev pub sampleRead : Stamp → Packet
 sampleRead stamp =
-    stampRead Sample (sampleApplication + stamp .mark) stamp (zeros rateCount) noSettings 0 (zeros beaconCount) (stamp .mark)
+    stampRead Sample (sampleApplication + stamp .mark) stamp 0 (zeros rateCount) noSettings 0 (zeros beaconCount) (stamp .mark)
 
 abbrev pub SampleBack : Type 0
 SampleBack =
@@ -66,16 +71,44 @@ SampleBack =
     → (readOf (samplePacket stamp records) ≡ sampleRead stamp)
     × (recordsOf (samplePacket stamp records) ≡ words records)
 
--- a beacon packet gives back the beacons as least counts
+-- a beacon packet of either edition gives back its mark, and the beacons as least counts
 abbrev pub beaconRead : Stamp → (beacons : List ℕ) → Packet
 beaconRead stamp beacons =
-    stampRead Beacon beaconApplication stamp (zeros rateCount) noSettings 0 (leastCounts beacons) 0
+    stampRead Beacon beaconApplication stamp (stamp .mark) (zeros rateCount) noSettings 0 (leastCounts (stamp .mark) beacons) 0
 
 abbrev pub BeaconBack : Type 0
 BeaconBack =
-    (stamp : Stamp) (beacons : List ℕ) → StampFits 0 stamp → BeaconValues beacons
+    (stamp : Stamp) (beacons : List ℕ) → StampFits secondMark stamp → BeaconValues beacons
     → (readOf (beaconPacket stamp beacons) ≡ beaconRead stamp beacons)
     × (recordsOf (beaconPacket stamp beacons) ≡ [])
+
+-- ---- the archive
+
+-- what a packet of the archive was written from: codes of the first edition, and 0 in byte 269
+abbrev pub firstCodes : List ℕ → List ℕ
+firstCodes counts = runs (λ n. be16 (rateCode n)) counts
+
+abbrev pub firstCounts : List ℕ → List ℕ
+firstCounts counts = map (λ n. leastCount (rateCode n)) counts
+
+-- it gives back the least counts of the first edition
+abbrev pub ArchiveRateBack : Type 0
+ArchiveRateBack =
+    (stamp : Stamp) (totals boxes : List ℕ) (s : Settings) (sum : ℕ) → StampFits 0 stamp → RateValues totals boxes s sum
+    → readOf (packetOf rateApplication stamp (firstCodes totals ++ firstCodes boxes ++ settingsBytes s sum))
+    ≡ stampRead Rate rateApplication stamp 0 (firstCounts (totals ++ boxes)) s sum (zeros beaconCount) 0
+
+abbrev pub ArchiveBeaconBack : Type 0
+ArchiveBeaconBack =
+    (stamp : Stamp) (beacons : List ℕ) → StampFits 0 stamp → BeaconValues beacons
+    → readOf (packetOf beaconApplication stamp (firstCodes beacons ++ zeros beaconUnused))
+    ≡ stampRead Beacon beaconApplication stamp 0 (zeros rateCount) noSettings 0 (firstCounts beacons) 0
+
+-- of any bytes with mark 0, whatever else they are, codes are judged and read by the first edition, as they were before the second
+abbrev pub ArchiveCodes : Type 0
+ArchiveCodes =
+    (n : ℕ) (xs : List ℕ) → markOf xs ≡ 0
+    → (codesGood n xs ≡ each n (λ i. codeValid (codeAt xs i))) × (ratesOf n xs ≡ table n (λ i. leastCount (codeAt xs i)))
 
 -- ---- one damaged byte
 
@@ -100,7 +133,7 @@ DamageRefused =
 -- so of every packet that is written
 abbrev pub RateDamageRefused : Type 0
 RateDamageRefused =
-    (stamp : Stamp) (totals boxes : List ℕ) (s : Settings) (sum : ℕ) (ys : List ℕ) → StampFits 0 stamp → RateValues totals boxes s sum
+    (stamp : Stamp) (totals boxes : List ℕ) (s : Settings) (sum : ℕ) (ys : List ℕ) → StampFits secondMark stamp → RateValues totals boxes s sum
     → OneByteOff (ratePacket stamp totals boxes s sum) ys → Refused ys
 
 abbrev pub SampleDamageRefused : Type 0
@@ -110,5 +143,5 @@ SampleDamageRefused =
 
 abbrev pub BeaconDamageRefused : Type 0
 BeaconDamageRefused =
-    (stamp : Stamp) (beacons ys : List ℕ) → StampFits 0 stamp → BeaconValues beacons
+    (stamp : Stamp) (beacons ys : List ℕ) → StampFits secondMark stamp → BeaconValues beacons
     → OneByteOff (beaconPacket stamp beacons) ys → Refused ys

@@ -39,6 +39,7 @@ pub fn refused(number: u8) -> Packet
         sequence: 0,
         time: 0,
         frame: 0,
+        mark: 0,
         rates,
         settings: no_settings(),
         sum: 0,
@@ -51,6 +52,7 @@ pub fn refused(number: u8) -> Packet
 fn accepted(
     kind: Kind,
     packet: &[u8],
+    mark: u8,
     rates: [u32; RATES],
     settings: Settings,
     sum: u32,
@@ -58,7 +60,7 @@ fn accepted(
     p: u8,
 ) -> Packet
     requires { ⌜ length (now packet) ≡ packetBytes ⌝ }
-    ensures { λ r. ⌜ r ≡ accepted kind (now (packet .entry)) rates settings sum beacons p ⌝ }
+    ensures { λ r. ⌜ r ≡ accepted kind (now (packet .entry)) mark rates settings sum beacons p ⌝ }
 {
     Packet {
         number: 0,
@@ -67,6 +69,7 @@ fn accepted(
         sequence: fields::sequence(packet),
         time: wire::read::u32_at(packet, layout::TIME_AT),
         frame: wire::read::u16_at(packet, layout::FRAME_AT),
+        mark,
         rates,
         settings,
         sum,
@@ -84,7 +87,17 @@ pub fn rate_packet(packet: &[u8]) -> Packet
     fields::rates(packet, &mut rates);
     let settings = fields::settings(packet);
     let sum = wire::read::u24_at(packet, layout::TABLE_SUM_AT);
-    accepted(Kind::Rate, packet, rates, settings, sum, [0u32; BEACONS], 0)
+    let mark = packet[layout::MARK_AT];
+    accepted(
+        Kind::Rate,
+        packet,
+        mark,
+        rates,
+        settings,
+        sum,
+        [0u32; BEACONS],
+        0,
+    )
 }
 
 pub fn sample_packet(packet: &[u8]) -> Packet
@@ -95,6 +108,7 @@ pub fn sample_packet(packet: &[u8]) -> Packet
     accepted(
         Kind::Sample,
         packet,
+        0,
         [0u32; RATES],
         no_settings(),
         0,
@@ -110,9 +124,11 @@ pub fn beacon_packet(packet: &[u8]) -> Packet
 {
     let mut beacons = [0u32; BEACONS];
     fields::rates(packet, &mut beacons);
+    let mark = packet[layout::MARK_AT];
     accepted(
         Kind::Beacon,
         packet,
+        mark,
         [0u32; RATES],
         no_settings(),
         0,

@@ -24,6 +24,8 @@ pub struct Packet {
     pub sequence: u16,
     pub time: u32,
     pub frame: u16,
+    // The edition of the rates' codes, byte 269 of a rate or beacon packet.
+    pub mark: u8,
     // The least counts of eight totals and 116 boxes.
     pub rates: [u32; RATES],
     pub settings: Settings,

@@ -18,6 +18,7 @@ use Rattle.counts.specs.declared.Counts.{Counts}
 use Rattle.packet.specs.Packet.{packetBytes, sampleApplication, stampOf, ratePacket, samplePacket, beaconPacket}
 use Rattle.decode.proofs.Back.{body-part}
 use Rattle.rate_code.specs.Rate.{countLimit}
+use Rattle.rate_code.specs.Editions.{secondMark}
 use Rattle.packet.specs.TableSum.{tableSum}
 use Rattle.packet.proofs.Written.{length-rate, length-sample, length-beacon}
 use Rattle.state.specs.declared.interval.Interval.{Interval}
@@ -51,9 +52,9 @@ module _ (frame time : ℕ) where
   length-packets totals counts settings tables slots lt lb lc ls =
       simp length-append (omega (
         arith,
-        length-rate (stampOf frame time 0) totals (counts .boxes) settings (tableSum tables) lt lb,
+        length-rate (stampOf frame time secondMark) totals (counts .boxes) settings (tableSum tables) lt lb,
         length-samples slots samplePackets (omega arith),
-        length-beacon (stampOf frame time 0) (counts .beacons) lc,
+        length-beacon (stampOf frame time secondMark) (counts .beacons) lc,
       ))
 
   -- sample packet p among the first n
@@ -82,10 +83,10 @@ module _ (frame time : ℕ) where
       ≡ words (take 64 (drop (64 * p) slots))
   unfolding packetsOf samplePacket
   slots-sent totals counts settings tables slots p lt lb ls h =
-      let R : List ℕ = ratePacket (stampOf frame time 0) totals (counts .boxes) settings (tableSum tables) in
+      let R : List ℕ = ratePacket (stampOf frame time secondMark) totals (counts .boxes) settings (tableSum tables) in
       let S : List ℕ = samplesOf frame time slots samplePackets in
-      let E : List ℕ = beaconPacket (stampOf frame time 0) (counts .beacons) in
-      let lr : length R ≡ packetBytes = length-rate (stampOf frame time 0) totals (counts .boxes) settings (tableSum tables) lt lb in
+      let E : List ℕ = beaconPacket (stampOf frame time secondMark) (counts .beacons) in
+      let lr : length R ≡ packetBytes = length-rate (stampOf frame time secondMark) totals (counts .boxes) settings (tableSum tables) lt lb in
       let lS : length S ≡ packetBytes * samplePackets = length-samples slots samplePackets (omega arith) in
       let records : List ℕ = take 64 (drop (64 * p) slots) in
       let k : packetBytes * (p + 1) ≡ length R + packetBytes * p = omega arith in

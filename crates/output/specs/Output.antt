@@ -4,6 +4,7 @@ use Prim.Native.Nat.{ℕ, zero, suc, _*_}
 use lib.ListN.{take, drop}
 use Rattle.settings.specs.declared.Settings.{Settings}
 use Rattle.counts.specs.declared.Counts.{Counts}
+use Rattle.rate_code.specs.Editions.{secondMark}
 use Rattle.packet.specs.Packet.{packetBytes, stampOf, ratePacket, samplePacket, beaconPacket}
 use Rattle.packet.specs.TableSum.{tableSum}
 
@@ -20,9 +21,9 @@ samplesOf frame time slots zero = []
 samplesOf frame time slots (suc n) =
     samplesOf frame time slots n ++ samplePacket (stampOf frame time n) (take 64 (drop (64 * n) slots))
 
--- all thirteen, "from the ending interval's settings and tables"
+-- all thirteen, "from the ending interval's settings and tables"; "Rate and beacon packets get 1 in byte 269" (document 02, Point 5)
 unfoldable pub packetsOf : (frame time : ℕ) (totals : List ℕ) (counts : Counts) (settings : Settings) (tables slots : List ℕ) → List ℕ
 packetsOf frame time totals counts settings tables slots =
-    ratePacket (stampOf frame time 0) totals (counts .boxes) settings (tableSum tables)
+    ratePacket (stampOf frame time secondMark) totals (counts .boxes) settings (tableSum tables)
     ++ samplesOf frame time slots samplePackets
-    ++ beaconPacket (stampOf frame time 0) (counts .beacons)
+    ++ beaconPacket (stampOf frame time secondMark) (counts .beacons)

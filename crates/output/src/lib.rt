@@ -11,6 +11,7 @@ ghost use Rattle.state.specs.Interval.{intervalWithin};
 ghost use Rattle.output.specs.Output.{samplePackets, outBytes, samplesOf, packetsOf};
 use packet::layout::PACKET_BYTES;
 use packet::stamp::stamp_of;
+use rate_code::editions::SECOND_MARK;
 use settings::Settings;
 use state::interval::Interval;
 
@@ -57,7 +58,7 @@ pub fn write_packets(
     ensures { λ _. ⌜ now (out .exit) ≡ packetsOf frame time (i .totals) (i .counts) settings (now (tables .entry)) (now (slots .entry)) ⌝ }
 {
     let sum = packet::table_sum::table_sum(tables);
-    let stamp = stamp_of(frame, time, 0);
+    let stamp = stamp_of(frame, time, SECOND_MARK);
     packet::write::write_rate(
         &mut out[0..PACKET_BYTES],
         stamp,

@@ -9,7 +9,7 @@ use Rattle.wire.proofs.Bytes.{then, take-put, length-put, length-words}
 use Rattle.wire.proofs.Pieces.{runs-append, runs-take, length-runs, length-runs-take}
 use Rattle.settings.specs.declared.Settings.{Settings}
 use Rattle.packet.specs.declared.stamp.Stamp.{Stamp}
-use Rattle.rate_code.specs.Rate.{rateCode}
+use Rattle.rate_code.specs.Editions.{codeBy}
 use Rattle.packet.specs.Layout.{applicationAt, bodyAt, innerBytes, sumAt, packetBytes, bodyBytes, frameAt}
 use Rattle.packet.specs.Layout.{totalCount, boxCount, recordCount, beaconCount, beaconUnused}
 use Rattle.packet.specs.Packet.{rateApplication, sampleApplication, beaconApplication, header, summed, enveloped, trailer, packetOf}
@@ -27,22 +27,23 @@ length-settings : (s : Settings) (sum : ℕ) → length (settingsBytes s sum) �
 unfolding settingsBytes
 length-settings s sum = refl
 
-pub length-codes : (ns : List ℕ) → length (codes ns) ≡ 2 * length ns
+pub length-codes : (mark : ℕ) (ns : List ℕ) → length (codes mark ns) ≡ 2 * length ns
 unfolding codes
-length-codes ns = length-runs (λ n. be16 (rateCode n)) 2 (λ n. refl) ns
+length-codes mark ns = length-runs (λ n. be16 (codeBy mark n)) 2 (λ n. refl) ns
 
-pub length-codes-take : (ns : List ℕ) (i : ℕ) → i ≤ length ns → length (codes (take i ns)) ≡ 2 * i
+pub length-codes-take : (mark : ℕ) (ns : List ℕ) (i : ℕ) → i ≤ length ns → length (codes mark (take i ns)) ≡ 2 * i
 unfolding codes
-length-codes-take ns i h = length-runs-take (λ n. be16 (rateCode n)) 2 (λ n. refl) ns i h
+length-codes-take mark ns i h = length-runs-take (λ n. be16 (codeBy mark n)) 2 (λ n. refl) ns i h
 
-pub codes-append : (ms ns : List ℕ) → codes ms ++ codes ns ≡ codes (ms ++ ns)
+pub codes-append : (mark : ℕ) (ms ns : List ℕ) → codes mark ms ++ codes mark ns ≡ codes mark (ms ++ ns)
 unfolding codes
-codes-append ms ns = sym (runs-append (λ n. be16 (rateCode n)) ms ns)
+codes-append mark ms ns = sym (runs-append (λ n. be16 (codeBy mark n)) ms ns)
 
 -- one code more
-pub codes-take : (ns : List ℕ) (i : ℕ) → i < length ns → codes (take (i + 1) ns) ≡ codes (take i ns) ++ be16 (rateCode (getD ns i 0))
+pub codes-take : (mark : ℕ) (ns : List ℕ) (i : ℕ) → i < length ns
+    → codes mark (take (i + 1) ns) ≡ codes mark (take i ns) ++ be16 (codeBy mark (getD ns i 0))
 unfolding codes
-codes-take ns i h = runs-take (λ n. be16 (rateCode n)) ns i h
+codes-take mark ns i h = runs-take (λ n. be16 (codeBy mark n)) ns i h
 
 -- ---- header and sum around 260 bytes of any kind
 
@@ -94,15 +95,15 @@ packet-written {x} xs a st body lx lb ex ey ew ez =
     (then x bodyAt body (trailer st) frameAt ey ew (omega arith) (omega arith))
     ez
 
-pub length-rate-body : (totals boxes : List ℕ) (s : Settings) (sum : ℕ) → length totals ≡ totalCount → length boxes ≡ boxCount
-    → length (rateBody totals boxes s sum) ≡ bodyBytes
-length-rate-body totals boxes s sum lt lb = simp (length-append, length-codes, length-settings) (omega arith)
+pub length-rate-body : (mark : ℕ) (totals boxes : List ℕ) (s : Settings) (sum : ℕ) → length totals ≡ totalCount → length boxes ≡ boxCount
+    → length (rateBody mark totals boxes s sum) ≡ bodyBytes
+length-rate-body mark totals boxes s sum lt lb = simp (length-append, length-codes, length-settings) (omega arith)
 
 pub length-rate : (st : Stamp) (totals boxes : List ℕ) (s : Settings) (sum : ℕ) → length totals ≡ totalCount → length boxes ≡ boxCount
     → length (ratePacket st totals boxes s sum) ≡ packetBytes
 unfolding ratePacket
 length-rate st totals boxes s sum lt lb =
-    length-packet rateApplication st (rateBody totals boxes s sum) (length-rate-body totals boxes s sum lt lb)
+    length-packet rateApplication st (rateBody (st .mark) totals boxes s sum) (length-rate-body (st .mark) totals boxes s sum lt lb)
 
 pub length-sample-body : (records : List ℕ) → length records ≡ recordCount → length (words records) ≡ bodyBytes
 length-sample-body records h = length-words records ∙ omega arith
@@ -111,9 +112,9 @@ pub length-sample : (st : Stamp) (records : List ℕ) → length records ≡ rec
 unfolding samplePacket
 length-sample st records h = length-packet (sampleApplication + st .mark) st (words records) (length-sample-body records h)
 
-pub length-beacon-body : (beacons : List ℕ) → length beacons ≡ beaconCount → length (beaconBody beacons) ≡ bodyBytes
-length-beacon-body beacons h = length-append (codes beacons) (zeros beaconUnused) ∙ omega (arith, length-codes beacons)
+pub length-beacon-body : (mark : ℕ) (beacons : List ℕ) → length beacons ≡ beaconCount → length (beaconBody mark beacons) ≡ bodyBytes
+length-beacon-body mark beacons h = length-append (codes mark beacons) (zeros beaconUnused) ∙ omega (arith, length-codes mark beacons)
 
 pub length-beacon : (st : Stamp) (beacons : List ℕ) → length beacons ≡ beaconCount → length (beaconPacket st beacons) ≡ packetBytes
 unfolding beaconPacket
-length-beacon st beacons h = length-packet beaconApplication st (beaconBody beacons) (length-beacon-body beacons h)
+length-beacon st beacons h = length-packet beaconApplication st (beaconBody (st .mark) beacons) (length-beacon-body (st .mark) beacons h)

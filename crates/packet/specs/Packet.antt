@@ -6,7 +6,7 @@ use Rattle.wire.specs.Bytes.{one, zeros, be16, be24, be32, words, total}
 use Rattle.wire.specs.Pieces.{runs}
 use Rattle.settings.specs.declared.Settings.{Settings}
 use Rattle.packet.specs.declared.stamp.Stamp.{Stamp}
-use Rattle.rate_code.specs.Rate.{rateCode}
+use Rattle.rate_code.specs.Editions.{codeBy}
 pub use Rattle.packet.specs.Layout.{packetBytes}
 use Rattle.packet.specs.Layout.{secondaryFlag, sequenceFlags, sequenceCounts, lengthField}
 use Rattle.packet.specs.Layout.{hvFlag, eonlyFlag, toferrorFlag, junkFlag, beaconUnused}
@@ -52,7 +52,7 @@ abbrev pub stampOf : (frame time mark : ℕ) → Stamp
 stampOf frame time mark =
     record { sequence = frame % sequenceCounts; time = time; frame = frame; mark = mark; last = 0 }
 
--- "Bytes 267-268 are the frame number", 269 "p" of a sample packet
+-- "Bytes 267-268 are the frame number", 269 "p" of a sample packet and the edition of a rate or beacon packet's codes
 unfoldable pub trailer : Stamp → List ℕ
 trailer stamp = be16 (stamp .frame) ++ one (stamp .mark) ++ one (stamp .last)
 
@@ -60,9 +60,9 @@ trailer stamp = be16 (stamp .frame) ++ one (stamp .mark) ++ one (stamp .last)
 abbrev pub packetOf : (application : ℕ) → Stamp → (body : List ℕ) → List ℕ
 packetOf application stamp body = enveloped application (stamp .sequence) (stamp .time) (body ++ trailer stamp)
 
--- the codes of the counts, two bytes each
-unfoldable pub codes : List ℕ → List ℕ
-codes counts = runs (λ n. be16 (rateCode n)) counts
+-- the codes of the counts, two bytes each, in the mark's edition
+unfoldable pub codes : (mark : ℕ) → List ℕ → List ℕ
+codes mark counts = runs (λ n. be16 (codeBy mark n)) counts
 
 -- "261 hv 128 + Eonly 64 + toferror 32 + junk 16"
 abbrev pub settingsFlags : Settings → ℕ
@@ -74,19 +74,19 @@ unfoldable pub settingsBytes : Settings → (sum : ℕ) → List ℕ
 settingsBytes s sum = one 0 ++ one (s .hvstep) ++ one (settingsFlags s) ++ be16 (s .limhi) ++ be24 sum
 
 -- "Rate: 11-26 eight totals, 27-258 boxes 1 to 116", then the settings and the table sum
-abbrev pub rateBody : (totals boxes : List ℕ) → Settings → (sum : ℕ) → List ℕ
-rateBody totals boxes s sum = codes totals ++ codes boxes ++ settingsBytes s sum
+abbrev pub rateBody : (mark : ℕ) (totals boxes : List ℕ) → Settings → (sum : ℕ) → List ℕ
+rateBody mark totals boxes s sum = codes mark totals ++ codes mark boxes ++ settingsBytes s sum
 
 unfoldable pub ratePacket : Stamp → (totals boxes : List ℕ) → Settings → (sum : ℕ) → List ℕ
-ratePacket stamp totals boxes s sum = packetOf rateApplication stamp (rateBody totals boxes s sum)
+ratePacket stamp totals boxes s sum = packetOf rateApplication stamp (rateBody (stamp .mark) totals boxes s sum)
 
 -- "Samples: packet p (0 to 10) has slots 64p to 64p + 63 at 11-266, p at 269"
 unfoldable pub samplePacket : Stamp → (records : List ℕ) → List ℕ
 samplePacket stamp records = packetOf (sampleApplication + stamp .mark) stamp (words records)
 
 -- "Beacon: 11-34 twelve rates"; 35-266 are zero
-abbrev pub beaconBody : (beacons : List ℕ) → List ℕ
-beaconBody beacons = codes beacons ++ zeros beaconUnused
+abbrev pub beaconBody : (mark : ℕ) (beacons : List ℕ) → List ℕ
+beaconBody mark beacons = codes mark beacons ++ zeros beaconUnused
 
 unfoldable pub beaconPacket : Stamp → (beacons : List ℕ) → List ℕ
-beaconPacket stamp beacons = packetOf beaconApplication stamp (beaconBody beacons)
+beaconPacket stamp beacons = packetOf beaconApplication stamp (beaconBody (stamp .mark) beacons)

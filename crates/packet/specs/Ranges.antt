@@ -12,7 +12,7 @@ use Rattle.packet.specs.declared.stamp.Stamp.{Stamp}
 use Rattle.rate_code.specs.Rate.{countLimit}
 use Rattle.packet.specs.Layout.{sequenceCounts, totalCount, boxCount, recordCount, beaconCount}
 
--- the sequence count has 14 bits, the time 32, the frame number 16; byte 269 goes to `marks`, which is 0 but in a sample packet;
+-- the sequence count has 14 bits, the time 32, the frame number 16; byte 269 goes to `marks`, the last edition or the last p;
 -- byte 270 is zero
 pub record StampFits (marks : ℕ) (stamp : Stamp) : Type 0 where
   pub sequence-fits : stamp .sequence < sequenceCounts

@@ -9,7 +9,7 @@ pub struct Stamp {
     // In seconds.
     pub time: u32,
     pub frame: u16,
-    // Byte 269: p in a sample packet, zero in the others.
+    // Byte 269: p in a sample packet, in the others the mark of their codes' edition.
     pub mark: u8,
     // Byte 270: zero.
     pub last: u8,

@@ -5,6 +5,7 @@ ghost use lib.ListN.{length};
 ghost use Rattle.wire.specs.Bytes.{put};
 ghost use Rattle.wire.specs.Lists.{EachBelow};
 ghost use Rattle.rate_code.specs.Rate.{countLimit};
+ghost use Rattle.rate_code.specs.Editions.{secondMark};
 ghost use Rattle.packet.specs.Layout.{packetBytes, frameAt, sumAt, gapAt, codeBytes};
 ghost use Rattle.packet.specs.Layout.{totalCount, boxCount, recordCount, beaconCount};
 ghost use Rattle.packet.specs.Packet.{lastSample, trailer, codes, settingsFlags, settingsBytes};
@@ -31,18 +32,18 @@ fn write_trailer(part: &mut [u8], stamp: Stamp)
     put_u8(part, layout::LAST_AT, stamp.last);
 }
 
-// The counts' codes, two bytes each, from `at` on.
+// The counts' codes of the second edition, two bytes each, from `at` on.
 fn write_codes(part: &mut [u8], at: usize, counts: &[u32])
     requires { ⌜ at + codeBytes * length (now counts) ≤ length (now part) ⌝ }
     requires { ⌜ EachBelow countLimit (now counts) ⌝ }
-    ensures { λ _. ⌜ now (part .exit) ≡ put (now (part .entry)) at (codes (now (counts .entry))) ⌝ }
+    ensures { λ _. ⌜ now (part .exit) ≡ put (now (part .entry)) at (codes secondMark (now (counts .entry))) ⌝ }
 {
     let mut i: usize = 0;
     while i < counts.len() {
         put_u16(
             part,
             at + layout::CODE_BYTES * i,
-            rate_code::encode(counts[i]),
+            rate_code::second::encode(counts[i]),
         );
         i += 1;
     }
@@ -83,7 +84,7 @@ pub fn write_rate<'a>(
     requires { ⌜ length (now part) ≡ packetBytes ⌝ }
     requires { ⌜ (length (now totals) ≡ totalCount) × (length (now boxes) ≡ boxCount) ⌝ }
     requires { ⌜ EachBelow countLimit (now totals) × EachBelow countLimit (now boxes) ⌝ }
-    requires { ⌜ sum < 16777216 ⌝ }
+    requires { ⌜ (stamp .mark ≡ secondMark) × (sum < 16777216) ⌝ }
     ensures { λ _. ⌜ now (part .exit) ≡ ratePacket stamp (now (totals .entry)) (now (boxes .entry)) settings sum ⌝ }
 {
     write_header(part, RATE_APPLICATION, stamp.sequence, stamp.time);
@@ -114,7 +115,7 @@ pub fn write_samples(part: &mut [u8], stamp: Stamp, records: &[u32])
 // The beacon packet: twelve counts as codes, and zeros.
 pub fn write_beacon(part: &mut [u8], stamp: Stamp, beacons: &[u32])
     requires { ⌜ (length (now part) ≡ packetBytes) × (length (now beacons) ≡ beaconCount) ⌝ }
-    requires { ⌜ EachBelow countLimit (now beacons) ⌝ }
+    requires { ⌜ EachBelow countLimit (now beacons) × (stamp .mark ≡ secondMark) ⌝ }
     ensures { λ _. ⌜ now (part .exit) ≡ beaconPacket stamp (now (beacons .entry)) ⌝ }
 {
     write_header(part, BEACON_APPLICATION, stamp.sequence, stamp.time);

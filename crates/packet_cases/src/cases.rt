@@ -63,7 +63,7 @@ pub fn rate(part: &[u8]) {
     // A byte or the sum alone.
     changed(part, 20, 1);
     changed(part, 271, 0);
-    // A quotient below 2,048; a shift above 12; a code that is in order.
+    // A code of the second edition alone; one of neither; one that is in order.
     summed(part, 13, 23);
     summed(part, 13, 216);
     summed(part, 13, 200);
@@ -72,7 +72,9 @@ pub fn rate(part: &[u8]) {
     summed(part, 261, 209);
     summed(part, 261, 216);
     summed(part, 263, 193);
-    summed(part, 269, 1);
+    // The mark of the first edition, whose codes these are not, and one of no edition.
+    summed(part, 269, 0);
+    summed(part, 269, 2);
     summed(part, 270, 1);
 }
 
@@ -92,11 +94,12 @@ pub fn sample(part: &[u8]) {
 }
 
 pub fn beacon(part: &[u8]) {
-    // Application number 625, an unused byte first and last, the bytes behind the frame, a code.
+    // Application number 625, an unused byte first and last, other marks, byte 270, a code.
     summed(part, 1, 113);
     summed(part, 35, 1);
     summed(part, 266, 1);
-    summed(part, 269, 1);
+    summed(part, 269, 0);
+    summed(part, 269, 2);
     summed(part, 270, 1);
     summed(part, 11, 255);
     changed(part, 35, 1);

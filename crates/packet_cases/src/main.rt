@@ -5,6 +5,7 @@ mod values;
 
 use packet::layout;
 use packet::stamp::stamp_of;
+use rate_code::editions::SECOND_MARK;
 use settings::Settings;
 
 fn main() {
@@ -20,7 +21,7 @@ fn main() {
         hv: true,
         hvstep: 201,
     };
-    let stamp = stamp_of(0, 305419896, 0);
+    let stamp = stamp_of(0, 305419896, SECOND_MARK);
     packet::write::write_rate(&mut part, stamp, &totals, &boxes, s, 11259375);
     show::packet(&part);
     cases::rate(&part);
@@ -31,7 +32,7 @@ fn main() {
     cases::sample(&part);
     let mut beacons = [0u32; layout::BEACONS];
     values::fill_counts(&mut beacons, 99);
-    packet::write::write_beacon(&mut part, stamp_of(65535, 60, 0), &beacons);
+    packet::write::write_beacon(&mut part, stamp_of(65535, 60, SECOND_MARK), &beacons);
     show::packet(&part);
     cases::beacon(&part);
 }

@@ -1,8 +1,10 @@
 // Lines of output.
 use decode::kind::Kind;
+use ground::Packet;
 use libc::STDOUT_FILENO;
 use packet::layout::BEACONS;
 use packet::layout::RATES;
+use settings::Settings;
 use wire::bits::bit;
 use wire::bits::wide8;
 use wire::bits::wide32;
@@ -28,6 +30,10 @@ pub fn number(n: u64) {
 fn word(n: u64) {
     io::print_decimal(STDOUT_FILENO, n);
     io::write_all(STDOUT_FILENO, b" ");
+}
+
+fn byte_word(n: u8) {
+    word(n as u64);
 }
 
 fn counts_line(counts: &[u32]) {
@@ -56,11 +62,9 @@ fn kind_number(kind: Kind) -> u64 {
     }
 }
 
-// A packet's bytes, and all that the reader answers for it.
-pub fn packet(bytes: &[u8]) {
-    hex_line(bytes);
-    let p = ground::read(bytes);
-    word(p.number as u64);
+// Number, kind, header and frame, table sum, p, mark.
+fn head_line(p: Packet) {
+    byte_word(p.number);
     let kind = p.kind;
     word(kind_number(kind));
     word(p.application as u64);
@@ -68,9 +72,12 @@ pub fn packet(bytes: &[u8]) {
     word(p.time as u64);
     word(p.frame as u64);
     word(p.sum as u64);
-    word(p.p as u64);
+    byte_word(p.p);
+    byte_word(p.mark);
     end_line();
-    let s = p.settings;
+}
+
+fn settings_line(s: Settings) {
     word(s.limhi as u64);
     word(bit(s.eonly) as u64);
     word(bit(s.toferror) as u64);
@@ -78,6 +85,14 @@ pub fn packet(bytes: &[u8]) {
     word(bit(s.hv) as u64);
     word(s.hvstep as u64);
     end_line();
+}
+
+// A packet's bytes, and all that the reader answers for it.
+pub fn packet(bytes: &[u8]) {
+    hex_line(bytes);
+    let p = ground::read(bytes);
+    head_line(p);
+    settings_line(p.settings);
     let rates = p.rates;
     rates_line(&rates);
     let beacons = p.beacons;

@@ -17,7 +17,7 @@ use Rattle.rate_code.specs.Rate.{countLimit, leastFrom, shift, rateCode,
 -- ---- the shift
 
 -- the least number that passes a test is the one that passes it, where none before does
-least-is : (p : ℕ → Bool) (k from s : ℕ) → from ≤ s → s ≤ from + k → p s ≡ true → ((j : ℕ) → from ≤ j → j < s → p j ≡ false)
+pub least-is : (p : ℕ → Bool) (k from s : ℕ) → from ≤ s → s ≤ from + k → p s ≡ true → ((j : ℕ) → from ≤ j → j < s → p j ≡ false)
     → leastFrom p from k ≡ s
 unfolding leastFrom
 least-is p zero from s a b t none = omega arith
@@ -51,6 +51,8 @@ pub record Bits (n z : ℕ) : Type 0 where
   pub low : n / 2 ^ (20 - z) < 4096
   pub high : 2048 ≤ n / 2 ^ (20 - z)
   pub shifted : shift n ≡ 20 - z
+  pub from : 2048 * 2 ^ (20 - z) ≤ n
+  pub below : n < 4096 * 2 ^ (20 - z)
 
 order-by : (i j : ℕ) → 2 ^ i < 2 ^ j → (b : Bool) → ltb i j ≡ b → i < j
 order-by i j h true e = ltb-true i j e
@@ -75,6 +77,8 @@ bits-at n z j h g e a b =
       low = div-lt-iff-lt-mul (pow-pos s) .1 hi;
       high = le-div-iff-mul-le (pow-pos s) .1 lo;
       shifted = shift-bits n s (omega arith) lo hi;
+      from = lo;
+      below = hi;
     }
 
 pub bits : (n : ℕ) → n < countLimit → 4096 ≤ n → Bits n (leadingZeros 32 n)
@@ -135,10 +139,14 @@ code-valid n h =
     (λ (g : 2048 ≤ n / 2 ^ shift n). rw (le-leb _ _ g) (or-true (eqb (shift n) 0)))
     (t .high))
 
--- the least count of a count's code is at most the count
-pub least-le : (n : ℕ) → n < countLimit → leastCount (rateCode n) ≤ n
+-- the least count of a count's code is the count without the bits that were shifted out
+pub least-cut : (n : ℕ) → n < countLimit → leastCount (rateCode n) ≡ n / 2 ^ shift n * 2 ^ shift n
 unfolding leastCount
-least-le n h = rw (code-shift n h, code-quotient n h) (div-mul-le-self n (2 ^ shift n))
+least-cut n h = rw (code-shift n h, code-quotient n h)
+
+-- so it is at most the count
+pub least-le : (n : ℕ) → n < countLimit → leastCount (rateCode n) ≤ n
+least-le n h = rw (least-cut n h) (div-mul-le-self n (2 ^ shift n))
 
 -- ---- a valid code
 

@@ -1,6 +1,5 @@
--- The rate code (document 01, "Packets"). Assumes nothing.
--- Its laws are in proofs/Codes.antt: other files go by those alone, so that another edition of the code changes these two files
--- and src/lib.rt.
+-- The rate code in its first edition (document 01, "Packets"), that of the archive. Its laws are in proofs/Codes.antt; packets and
+-- their reader go by Editions.antt. Assumes nothing.
 use Prim.Native.Nat.{ℕ, zero, suc, _+_, _*_, _/_, _%_, _^_}
 use mathlib.Core.Bool.{Bool, cond, _&&_, _||_}
 use mathlib.Core.List.{List, [], _∷_}

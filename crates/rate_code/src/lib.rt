@@ -1,4 +1,7 @@
-// The rate code: a count below 2^24 in sixteen bits.
+// The rate code: a count below 2^24 in sixteen bits. Here its first edition, which the archive has.
+pub mod editions;
+pub mod second;
+
 ghost use mathlib.Core.Path.{_≡_};
 ghost use mathlib.Core.Bool.{true};
 ghost use Prim.Native.Nat.{_<_};

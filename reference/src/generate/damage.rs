@@ -1,19 +1,30 @@
-//! Packets for the reader and the gatherer: damaged ones, and changed ones that are still lawful.
+//! Packets for the reader and the gatherer: damaged ones, changed ones that are still lawful, and
+//! those of the archive, with the first edition's codes.
 
+use std::ops::Range;
+
+use crate::codes::Edition;
 use crate::generate::Random;
 use crate::listing::*;
 use crate::packets::*;
 
 type Bytes = [u8; PACKET_BYTES];
 
-/// Codes that some count has, and codes that none has.
+/// Codes that some count has in both editions, those that none has in the first, and in the second.
 const CODES: [u16; 10] = [0, 1, 0x07FF, 0x0800, 0x0FFF, 0x1800, 0x1FFF, 0x2800, 0xC800, 0xCFFF];
-const WRONG_CODES: [u16; 12] =
+const WRONG_FIRST: [u16; 12] =
     [0x1000, 0x1001, 0x17FF, 0x2000, 0x27FF, 0xC000, 0xC7FF, 0xD000, 0xD7FF, 0xD800, 0xF800, 0xFFFF];
+const WRONG_SECOND: [u16; 5] = [0xD000, 0xD001, 0xDFFF, 0xE000, 0xFFFF];
+/// The edges of both, to stand under every mark.
+const EDGE_CODES: [u16; 7] = [0x0FFF, 0x1000, 0x17FF, 0x1800, 0xCFFF, 0xD000, 0xFFFF];
+const MARKS: [u8; 5] = [0, 1, 2, 3, 255];
 
 /// The packet changed somehow: most of these are refused, by 11 to 14.
 pub fn changed(random: &mut Random, mut packet: Bytes) -> Vec<u8> {
-    match random.below(12) {
+    if random.percent(30) {
+        into_first(&mut packet);
+    }
+    match random.below(14) {
         0 => return wrong_length(random, packet),
         1 => {
             let at = random.below(PACKET_BYTES);
@@ -32,6 +43,7 @@ pub fn changed(random: &mut Random, mut packet: Bytes) -> Vec<u8> {
             return packet.to_vec();
         }
         5 | 6 => lawful_change(random, &mut packet),
+        7 | 8 => other_mark(random, &mut packet),
         _ => body_fault(random, &mut packet),
     }
     packet[271] = packet_sum(&packet);
@@ -71,19 +83,29 @@ fn body_fault(random: &mut Random, packet: &mut Bytes) {
 
 fn rate_fault(random: &mut Random, packet: &mut Bytes, some: u8) {
     match random.below(8) {
-        0..=2 => wrong_code(random, packet, 124),
+        0..=2 => wrong_code(random, packet),
         3 => packet[259] = some,
         4 => packet[261] |= 1 << random.below(4),
-        5 => packet[random.pick(&[269, 270])] = some,
+        5 => wrong_end(random, packet, some),
         6 => put(packet, 262, 705),
         _ => put(packet, 262, random.between(705, 65_535) as u16),
     }
 }
 
+/// A mark that no edition has, or a byte behind it.
+fn wrong_end(random: &mut Random, packet: &mut Bytes, some: u8) {
+    if random.percent(50) {
+        packet[MARK_AT] = random.pick(&[2, 3, 16, 128, 255]);
+    } else {
+        packet[270] = some;
+    }
+}
+
 fn beacon_fault(random: &mut Random, packet: &mut Bytes, some: u8) {
-    match random.below(4) {
-        0 => wrong_code(random, packet, 12),
-        1 => packet[random.pick(&[35, 266, 269, 270])] = some,
+    match random.below(5) {
+        0 => wrong_code(random, packet),
+        1 => wrong_end(random, packet, some),
+        2 => packet[random.pick(&[35, 266])] = some,
         _ => packet[random.between(35, 266) as usize] = some,
     }
 }
@@ -140,9 +162,9 @@ fn lawful_change(random: &mut Random, packet: &mut Bytes) {
             packet[261] = random.byte() & 0xF0;
             put(packet, 262, if random.percent(50) { 704 } else { random.between(0, 704) as u16 });
             packet[264..267].copy_from_slice(&random.bits().to_be_bytes()[..3]);
-            (0..random.below(30)).for_each(|_| lawful_code(random, packet, 124));
+            (0..random.below(30)).for_each(|_| lawful_code(random, packet));
         }
-        BEACON => (0..random.below(5)).for_each(|_| lawful_code(random, packet, 12)),
+        BEACON => (0..random.below(5)).for_each(|_| lawful_code(random, packet)),
         LISTING => other_words(random, packet),
         _ => {
             for _ in 0..random.below(30) {
@@ -173,17 +195,65 @@ fn other_words(random: &mut Random, packet: &mut Bytes) {
     }
 }
 
-fn wrong_code(random: &mut Random, packet: &mut Bytes, codes: usize) {
-    let s = random.between(1, 12) as u16;
-    let any = 4_096 * s + random.below(2_048) as u16;
-    let place = 11 + 2 * random.below(codes);
-    put(packet, place, if random.percent(30) { any } else { random.pick(&WRONG_CODES) });
+/// Another mark, or the same; under it codes as they are and codes at the edges of both editions.
+fn other_mark(random: &mut Random, packet: &mut Bytes) {
+    if codes_of(packet).is_empty() {
+        return lawful_change(random, packet);
+    }
+    packet[MARK_AT] = random.pick(&MARKS);
+    for _ in 0..random.below(3) {
+        let place = code_place(random, packet);
+        put(packet, place, random.pick(&EDGE_CODES));
+    }
 }
 
-fn lawful_code(random: &mut Random, packet: &mut Bytes, codes: usize) {
+/// A rate or beacon packet with the first edition's codes and mark, as the archive has them.
+pub fn into_first(packet: &mut Bytes) {
+    let codes = codes_of(packet);
+    if codes.is_empty() {
+        return;
+    }
+    for two in packet[codes].chunks_exact_mut(2) {
+        let code = u16::from_be_bytes([two[0], two[1]]);
+        let least = Edition::Second.least_count(code).expect("a packet as written");
+        two.copy_from_slice(&Edition::First.code(least).to_be_bytes());
+    }
+    packet[MARK_AT] = FIRST_MARK;
+}
+
+/// The bytes of a packet that are codes of rates.
+fn codes_of(packet: &Bytes) -> Range<usize> {
+    match number(packet) {
+        RATE => RATE_CODES,
+        BEACON => BEACON_CODES,
+        _ => 0..0,
+    }
+}
+
+/// Where some rate of a rate or beacon packet has its code.
+fn code_place(random: &mut Random, packet: &Bytes) -> usize {
+    let codes = codes_of(packet);
+    codes.start + 2 * random.below(codes.len() / 2)
+}
+
+fn wrong_code(random: &mut Random, packet: &mut Bytes) {
+    let s = random.between(1, 12) as u16;
+    let first = random.percent(30).then_some(4_096 * s + random.below(2_048) as u16);
+    let wrong = match edition(packet[MARK_AT]) {
+        Some(Edition::First) => first.unwrap_or(random.pick(&WRONG_FIRST)),
+        _ => random.pick(&WRONG_SECOND),
+    };
+    let place = code_place(random, packet);
+    put(packet, place, wrong);
+}
+
+fn lawful_code(random: &mut Random, packet: &mut Bytes) {
     let s = random.between(0, 12) as u16;
-    let any = 4_096 * s + random.between(2_048, 4_095) as u16;
-    let place = 11 + 2 * random.below(codes);
+    let any = match edition(packet[MARK_AT]) {
+        Some(Edition::First) => 4_096 * s + random.between(2_048, 4_095) as u16,
+        _ => 4_096 * s + random.below(4_096) as u16,
+    };
+    let place = code_place(random, packet);
     put(packet, place, if random.percent(70) { any } else { random.pick(&CODES) });
 }
 

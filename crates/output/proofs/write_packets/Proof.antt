@@ -8,6 +8,8 @@ use lib.ListN.{length, length-append, length-map}
 use denote.Ref.{now}
 use Rattle.wire.specs.Bytes.{put}
 use Rattle.wire.proofs.Bytes.{then, put-all, put-mid}
+use Rattle.rate_code.specs.Editions.{secondMark}
+use Rattle.packet.specs.declared.stamp.Stamp.{Stamp}
 use Rattle.packet.specs.Packet.{packetBytes, stampOf, ratePacket, beaconPacket}
 use Rattle.packet.specs.TableSum.{tableSum}
 use Rattle.packet.proofs.Written.{length-rate, length-beacon}
@@ -41,17 +43,29 @@ rated c = let k = c .before .before in k .before .before
 abbrev sampled : tie.After-write-beacon-arg3 → tie.After-write-samples
 sampled c = let k = c .before .before .before in k .before .before .before
 
+-- the stamp has the second edition's mark
+second : (st : tie.After-stamp-of) → st .stamp-of .result .mark ≡ secondMark
+second st = ap (λ (x : Stamp). x .mark) (st .stamp-of .ensures)
+
 write-rate-requires : tie.Need-write-rate-requires
 write-rate-requires c κs =
     let t = stamped c .before in
     let s = entry t in
-    let w = s .pre .1 .1 in
-    (search needs, ((arrays s .0, arrays s .1), ((totals-fit (s .args .t3) w, boxes-fit (s .args .t3) w), t .table-sum .ensures .1)))
+    let w = s .pre .1 .1 in (
+      search needs,
+      (
+        (arrays s .0, arrays s .1),
+        (
+          (totals-fit (s .args .t3) w, boxes-fit (s .args .t3) w),
+          (second (stamped c), t .table-sum .ensures .1),
+        ),
+      ),
+    )
 
 write-beacon-requires : tie.Need-write-beacon-requires
 write-beacon-requires c κs =
     let s = entry (stamped (rated (sampled c) .before) .before) in
-    ((search needs, arrays s .2), beacons-fit (s .args .t3) (s .pre .1 .1))
+    ((search needs, arrays s .2), (beacons-fit (s .args .t3) (s .pre .1 .1), second (stamped (rated (sampled c) .before))))
 
 returns : tie.Need-returns
 unfolding packetsOf
@@ -64,7 +78,7 @@ returns c =
     let s = entry t in
     let a = s .args in
     let xs = now (a .out) in
-    let stamp = stampOf (a .frame) (a .time) 0 in
+    let stamp = stampOf (a .frame) (a .time) secondMark in
     let sum = tableSum (now (a .tables)) in
     let R : List ℕ = ratePacket stamp (a .t3 .totals) (a .t3 .counts .boxes) (a .settings) sum in
     let S : List ℕ = samplesOf (a .frame) (a .time) (now (a .slots)) samplePackets in

@@ -16,8 +16,9 @@ fill-counts-requires c κs = (omega arith, each-zeros countLimit boxCount (omega
 write-rate-requires : tie.Need-write-rate-requires
 write-rate-requires c κs =
     let b = c .before .before .before .before .before in
+    let m = ap (λ (t : Stamp). t .mark) (c .before .before .before .stamp-of .ensures) in
     let totals-below = all-at 16777215 (4095 ∷ 4096 ∷ 4097 ∷ 8191 ∷ 8192 ∷ 1000000 ∷ 16777215 ∷ 0 ∷ []) in
-    (refl, ((refl, b .fill-counts .kept .0), ((λ k. omega (arith, totals-below k refl), b .fill-counts .ensures), omega arith)))
+    (refl, ((refl, b .fill-counts .kept .0), ((λ k. omega (arith, totals-below k refl), b .fill-counts .ensures), (m, omega arith))))
 
 write-samples-requires : tie.Need-write-samples-requires
 write-samples-requires c κs =
@@ -26,6 +27,11 @@ write-samples-requires c κs =
 
 fill-counts-requires-2 : tie.Need-fill-counts-requires-2
 fill-counts-requires-2 c κs = (omega arith, each-zeros countLimit beaconCount (omega arith))
+
+write-beacon-requires : tie.Need-write-beacon-requires
+write-beacon-requires c κs =
+    let m = ap (λ (t : Stamp). t .mark) (c .before .stamp-of3 .ensures) in
+    (search needs, (search needs, m))
 
 pub main-spec : {M : Type 1} → statement M
 main-spec =
@@ -57,7 +63,7 @@ main-spec =
     (λ c. search needs)
     (λ c κs. search needs)
     (λ c. search needs)
-    (λ c κs. search needs)
+    write-beacon-requires
     (λ c. search needs)
     (λ c κs. search needs)
     (λ c. search needs)

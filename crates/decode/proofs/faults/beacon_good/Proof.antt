@@ -6,7 +6,7 @@ use Rattle.decode.proofs.faults.beacon_good.Tie as tie
 
 returns : tie.Need-returns
 unfolding beaconGood
-returns c = simp (c .unmarked .ensures, c .before .zeros-good .ensures, c .before .before .codes-good .ensures)
+returns c = simp (c .end-good .ensures, c .before .zeros-good .ensures, c .before .before .codes-good .ensures)
 
 pub beacon-good-spec : {M : Type 1} → statement M
 beacon-good-spec =

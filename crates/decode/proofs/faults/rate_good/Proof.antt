@@ -8,7 +8,7 @@ returns : tie.Need-returns
 unfolding rateGood
 returns c =
     let k = c .before .before .before .before in
-    simp (c .unmarked .ensures, c .before .u16-at .ensures, k .codes-good .ensures)
+    simp (c .end-good .ensures, c .before .u16-at .ensures, k .codes-good .ensures)
 
 pub rate-good-spec : {M : Type 1} → statement M
 rate-good-spec =

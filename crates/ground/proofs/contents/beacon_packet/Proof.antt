@@ -11,9 +11,9 @@ rates-requires c κs = (omega arith, beacon-codes _ (c .before .before .pre .1))
 
 returns : tie.Need-returns
 unfolding contents
-returns c = simp (c .accepted .ensures, c .before .no-settings .ensures, c .before .before .before .rates .ensures)
+returns c = simp (c .accepted .ensures, c .before .no-settings .ensures, c .before .before .before .before .rates .ensures)
 
 pub beacon-packet-spec : {M : Type 1} → statement M
 beacon-packet-spec =
     tie.close
-    (tie.spec (λ c. search needs) rates-requires (λ c κs. search needs) (λ c κs. search needs) returns)
+    (tie.spec (λ c. search needs) rates-requires (λ c. search needs) (λ c κs. search needs) (λ c κs. search needs) returns)

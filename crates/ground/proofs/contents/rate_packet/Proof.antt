@@ -12,8 +12,8 @@ rates-requires c κs = (omega arith, rate-codes _ (c .before .before .pre .1))
 returns : tie.Need-returns
 unfolding contents
 returns c =
-    let k = c .before .before in
-    simp (c .accepted .ensures, c .before .u24-at .ensures .0, k .settings .ensures, k .before .before .rates2 .ensures)
+    let k = c .before .before .before in
+    simp (c .accepted .ensures, c .before .before .u24-at .ensures .0, k .settings .ensures, k .before .before .rates2 .ensures)
 
 pub rate-packet-spec : {M : Type 1} → statement M
 rate-packet-spec =
@@ -23,5 +23,6 @@ rate-packet-spec =
     rates-requires
     (λ c κs. search needs)
     (λ c κs. search needs)
+    (λ c. search needs)
     (λ c κs. search needs)
     returns)
