@@ -21,6 +21,7 @@ use Rattle.packet.specs.Packet.{packetBytes, lastSample, stampOf, ratePacket, s
 use Rattle.packet.specs.Ranges.{StampFits, SampleValues}
 use Rattle.packet.specs.TableSum.{tableSum}
 use Rattle.packet.proofs.Written.{length-rate, length-sample, length-beacon}
+use Rattle.decode.proofs.Accepted.{stamp-fits}
 use Rattle.ground.specs.Ground.{readOf, recordsOf}
 use Rattle.ground.proofs.Back.{rate-back, sample-back, beacon-back}
 use Rattle.state.specs.declared.State.{State}
@@ -42,14 +43,8 @@ packet-at before here rest k lb lh =
 -- ---- any thirteen packets whose values are in range
 
 module _ (e : Ended) (f : Fits e) where
-  stamp-fits : (p : ℕ) (marks : ℕ) → p ≤ marks → StampFits marks (stampOf (e .frame) (e .time) p)
-  stamp-fits p marks h = record {
-    sequence-fits = omega arith;
-    time-fits = f .time-fits;
-    frame-fits = f .frame-fits;
-    mark-fits = h;
-    last-is = refl;
-  }
+  stamped : (p : ℕ) (marks : ℕ) → p ≤ marks → StampFits marks (stampOf (e .frame) (e .time) p)
+  stamped p marks h = stamp-fits (e .frame) (e .time) p marks (f .frame-fits) (f .time-fits) h
 
   abbrev rate : List ℕ
   rate = ratePacket (stampOf (e .frame) (e .time) secondMark) (e .totals) (e .counts .boxes) (e .settings) (tableSum (e .tables))
@@ -135,20 +130,20 @@ module _ (e : Ended) (f : Fits e) where
       let l : n ≤ lastSample = omega arith in
       let more : 64 * n + 64 ≡ 64 * suc n = omega arith in
       ap₂ (λ (a b : List ℕ). a ++ b) (records-read n (omega arith))
-      (ap recordsOf (sample-place n l) ∙ sample-back _ (slotsIn n) (stamp-fits n lastSample l) (slots-in-range n l) .1)
+      (ap recordsOf (sample-place n l) ∙ sample-back _ (slotsIn n) (stamped n lastSample l) (slots-in-range n l) .1)
       ∙ words-append (take (64 * n) (e .slots)) (slotsIn n)
       ∙ ap words (sym (take-add (64 * n) 64 (e .slots)) ∙ ap (λ (k : ℕ). take k (e .slots)) more)
 
 pub packets-received : PacketsReceived
 packets-received e f =
-    let stamped : StampFits secondMark (stampOf (e .frame) (e .time) secondMark) = stamp-fits e f secondMark secondMark (omega arith) in
+    let second : StampFits secondMark (stampOf (e .frame) (e .time) secondMark) = stamped e f secondMark secondMark (omega arith) in
     let all-slots : length (e .slots) ≤ 64 * samplePackets = omega (arith, f .slots-are) in
     record {
       whole = packets-length e f;
-      rates = ap readOf (rate-place e f) ∙ rate-back _ (e .totals) (e .counts .boxes) (e .settings) _ stamped (f .rates-fit) .0;
-      samples = λ p h. ap readOf (sample-place e f p h) ∙ sample-back _ _ (stamp-fits e f p lastSample h) (slots-in-range e f p h) .0;
+      rates = ap readOf (rate-place e f) ∙ rate-back _ (e .totals) (e .counts .boxes) (e .settings) _ second (f .rates-fit) .0;
+      samples = λ p h. ap readOf (sample-place e f p h) ∙ sample-back _ _ (stamped e f p lastSample h) (slots-in-range e f p h) .0;
       records = records-read e f samplePackets (omega arith) ∙ ap words (take-all (64 * samplePackets) (e .slots) all-slots);
-      beacons = ap readOf (beacon-place e f) ∙ beacon-back _ (e .counts .beacons) stamped (f .beacons-fit) .0;
+      beacons = ap readOf (beacon-place e f) ∙ beacon-back _ (e .counts .beacons) second (f .beacons-fit) .0;
     }
 
 -- ---- a close that is carried out

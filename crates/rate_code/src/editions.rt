@@ -11,7 +11,7 @@ pub fn valid(mark: u8, c: u16) -> bool
     ensures { λ r. ⌜ r ≡ validBy mark c ⌝ }
 {
     if mark == 0 {
-        return crate::valid(c);
+        return crate::first::valid(c);
     }
     crate::second::valid(c)
 }
@@ -22,7 +22,7 @@ pub fn least_count(mark: u8, c: u16) -> u32
     ensures { λ r. ⌜ r ≡ leastBy mark c ⌝ }
 {
     if mark == 0 {
-        return crate::least_count(c);
+        return crate::first::least_count(c);
     }
     crate::second::least_count(c)
 }

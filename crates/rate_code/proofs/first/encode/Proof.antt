@@ -4,8 +4,8 @@ use mathlib.Core.Path.{sym}
 use native.Mathlib.Omega.{arith}
 use lib.Count.{leadingZeros}
 use Rattle.rate_code.proofs.Codes.{code-low, code-bits, Bits, bits}
-use Rattle.rate_code.proofs.encode.Statement.{statement}
-use Rattle.rate_code.proofs.encode.Tie as tie
+use Rattle.rate_code.proofs.first.encode.Statement.{statement}
+use Rattle.rate_code.proofs.first.encode.Tie as tie
 
 from-4096 : (c : tie.Else1) → Bits (c .before .args .n) (leadingZeros 32 (c .before .args .n))
 from-4096 c = bits (c .before .args .n) (c .before .pre) (c .if1 .left)

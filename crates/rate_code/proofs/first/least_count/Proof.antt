@@ -4,8 +4,8 @@ use native.Mathlib.Omega.{arith}
 use native.Mathlib.Nat.{mod-eq-of-lt}
 use Rattle.rate_code.specs.Rate.{leastCount}
 use Rattle.rate_code.proofs.Codes.{least-below}
-use Rattle.rate_code.proofs.least_count.Statement.{statement}
-use Rattle.rate_code.proofs.least_count.Tie as tie
+use Rattle.rate_code.proofs.first.least_count.Statement.{statement}
+use Rattle.rate_code.proofs.first.least_count.Tie as tie
 
 returns : tie.Need-returns
 unfolding leastCount
