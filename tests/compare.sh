@@ -4,6 +4,7 @@
 #   tests/compare.sh FROM TO [CALLS]    a stream of CALLS calls (5,000) for each seed FROM to TO, for replay
 # The fixed set begins with the cases of cause 1 (limit_cases), which no stream can give: the output stored beside the
 # proved program must be what the second implementation prints, and the proved program must print the same.
+# The fixed set ends with archives that convert takes there and back.
 # A difference prints the seed and the first differing line. At the end: how often each number was answered.
 # The proved programs stand in target/bin (rt check); the second implementation is built here.
 set -u
@@ -43,6 +44,29 @@ compare() {
     same "$program on the stream of seed $stream" "$work/expected" "$work/found"
 }
 
+# converted WORD FROM TO: convert, given this word, on the file FROM; both implementations write and say the same. What
+# they write is left in TO.
+converted() {
+    local folder
+    for folder in "$plain" "$proved"; do
+        (cd "$work" && "$folder/convert" "$1" < "$2" > "$3.$(basename "$folder")" 2> error.$(basename "$folder"))
+    done
+    same "convert $1 on $2 of the archive $archive" "$work/$3.release" "$work/$3.bin"
+    same "what convert $1 says on $2 of the archive $archive" "$work/error.release" "$work/error.bin"
+    mv "$work/$3.bin" "$work/$3"
+}
+
+# archive SEED PACKETS [--damaged]: an archive of the first edition there and back.
+archive() {
+    local archive="$*"
+    rm -f "$work"/*
+    "$plain/streams" --archive "$1" "$2" "$work" "${@:3}" || { failed=$((failed + 1)); return; }
+    converted first archive first
+    converted second archive there
+    converted first there back
+    [ $# -gt 2 ] || same "there and back, the archive $archive" "$work/archive" "$work/back"
+}
+
 # Odd states, lengths and slots.
 limits() {
     : > "$work/stdin"
@@ -70,6 +94,11 @@ fixed() {
     compare replay 65 0 --full 20
     compare replay 66 200 --frames 300
     compare minute 67 0 --minute --frames 65600
+    archive 68 100000
+    # README shows this archive, and what convert says of it each way.
+    sed -n 's/^    \([0-9]* converted, .*\)/\1/p' README.md > "$work/shown"
+    same "what README shows of convert" "$work/shown" "$work/error.bin"
+    archive 69 20000 --damaged
 }
 
 answers=$(mktemp)

@@ -305,9 +305,10 @@ def second_least_count(code):
     return (rest + 4096) * 2**(e - 1) if e >= 1 else rest
 
 
-# "Rate and beacon packets get 1 in byte 269; the reader takes both editions, and 13 judges codes by that byte".
+# "Rate and beacon packets get 1 in byte 269; the reader takes both editions, and 13 judges codes by that byte";
+# "The reader takes the mark 2 by the second edition's rule."
 MARK = 1
-LEAST_COUNT = {0: first_least_count, 1: second_least_count}
+LEAST_COUNT = {0: first_least_count, 1: second_least_count, 2: second_least_count}
 
 
 def rates_of(mark, part):
@@ -421,6 +422,36 @@ def read_packet(data):
                     frame=int.from_bytes(data[267:269], "big"))
     read_body = {RATE: read_rate, BEACON: read_beacon}.get(answer.application, read_sample)
     return answer if read_body(data, answer) else Packet(13)
+
+
+# ---- converting from one edition to the other (document 02, Point 6)
+
+FIRST, CONVERTED = 0, 2
+
+
+def codes_by_least_count(least_count):
+    return {least_count(code): code for code in range(65536) if least_count(code) is not None}
+
+
+# Each edition's codes by their least counts.
+CODE_OF = {FIRST: codes_by_least_count(first_least_count), CONVERTED: codes_by_least_count(second_least_count)}
+
+
+def convert(data, wanted):
+    """The packet in the edition of the mark wanted, or the number by which it is refused."""
+    p = read_packet(data)
+    if p.number != 0:
+        return p.number
+    # "A sample packet, or one already in the edition wanted, gets 13."
+    if p.kind == "sample" or (p.mark == FIRST) == (wanted == FIRST):
+        return 13
+    codes = [CODE_OF[wanted].get(n) for n in (p.rates if p.kind == "rate" else p.beacons)]
+    # "17 when no first-edition code has some rate's least count"
+    if None in codes:
+        return 17
+    # "byte 269 becomes 2 (converted), or 0 on the way back, the sum is renewed and every other byte stays"
+    end = 11 + 2 * len(codes)
+    return with_sum(data[:11] + put_numbers(codes, 2) + data[end:269] + bytes([wanted]) + data[270:])
 
 
 # ---- listing packets and their gatherer (document 02, Point 1)

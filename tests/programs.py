@@ -16,11 +16,9 @@ import tempfile
 import time
 import tty
 
+from running import BIN, HERE, check, finish, interrupting, told
 from paper import SLOTS, TABLE_BYTES, accepted_echo, echo_buffer, pack, package_echo, refused_echo, sum_error_echo, with_sum
 
-HERE = os.path.dirname(os.path.abspath(__file__))
-BIN = os.path.abspath(sys.argv[1] if len(sys.argv) > 1 else os.path.join(HERE, "..", "target", "bin"))
-counts = {"passed": 0, "failed": 0}
 
 
 # ---- inputs
@@ -151,11 +149,6 @@ def run_on(program, data=tables(), **streams):
     return (done.stdout or b"").decode(), done.stderr.decode(), done.returncode
 
 
-def told(program, what, number):
-    """The line on standard error of a program that could not do this."""
-    return f"{BIN}/{program}: cannot {what}: errno {number}"
-
-
 def lines_now(pipe, n, seconds=10):
     """The next n lines of a pipe, or as many as come within the time."""
     text, end = b"", time.monotonic() + seconds
@@ -165,21 +158,6 @@ def lines_now(pipe, n, seconds=10):
             break
         text += more
     return text.decode()
-
-
-def check(name, got, want):
-    """got: text; want: a list of lines."""
-    text = "".join(x + "\n" for x in want)
-    if got == text:
-        counts["passed"] += 1
-        return
-    counts["failed"] += 1
-    print("FAILED", name)
-    for g, w in zip(got.split("\n"), text.split("\n")):
-        if g != w:
-            print("  got  ", g[:150], "\n  want ", w[:150])
-            return
-    print("  got", len(got), "bytes, want", len(text))
 
 
 def without_packets(output):
@@ -196,13 +174,13 @@ def start_and_end():
         check(f"{program}: no input", run(program, b""), [])
         first = ["event 0"] if program == "replay" else []
         check(f"{program}: silent end", run(program, event()), first)
-        for kind in (0, 10, 49, 255) + ((5, 6, 7, 8, 9) if program == "minute" else ()):
+        for kind in (0, 12, 49, 255) + ((5, 6, 7, 8, 9, 10, 11) if program == "minute" else ()):
             check(f"{program}: kind {kind}", run(program, event() + bytes([kind]) + bytes(100)), first + ["bad record"])
         bodies = [(1, 7), (2, 16), (4, 4)] + ([(3, 80)] if program == "minute" else [(7, 6)])
         for kind, n in bodies:
             for short in (0, n - 1):
                 check(f"{program}: kind {kind}, {short} bytes", run(program, event() + bytes([kind]) + bytes(short)), first + ["bad record"])
-    for kind in (3, 5, 6, 8):
+    for kind in (3, 5, 6, 8, 10, 11):
         for short in (b"", b"\0", b"\0\5", b"\0\5abcd", b"\xff\xff" + bytes(65534)):
             check(f"replay: kind {kind}, {len(short)} bytes", run("replay", bytes([kind]) + short), ["bad record"])
     check("minute: the example", run("minute", bytes.fromhex("01000500640000000400 00003C")), ["0 1 1 0 0 0"])
@@ -428,10 +406,10 @@ def beacon(code, mark):
 
 def editions():
     """The mark says by which edition codes are judged and read; aboard the second alone is written."""
-    cases = [(code, mark) for code in EDGE_CODES for mark in (0, 1, 3, 255)]
+    cases = [(code, mark) for code in EDGE_CODES for mark in (0, 1, 2, 3, 255)]
     want = []
     for code, mark in cases:
-        least = EDGE_CODES[code][mark] if mark < 2 else None
+        least = EDGE_CODES[code][min(mark, 1)] if mark < 3 else None
         want += ["packet 13"] if least is None else ["packet 0", f"beacon 0 60 0 {mark}", "rates" + f" {least}" * 12]
     check("replay: codes under each mark", run("replay", b"".join(packet(beacon(*c)) for c in cases)), want)
     output = run("replay", event() * 4099 + close(), SORTED)
@@ -442,6 +420,37 @@ def editions():
     # In the first edition these bytes are no codes: 1003 hex has s 1 and a quotient below 2,048.
     check("replay: the same under mark 0", run("replay", packet(changed(outs[0], 269, 0)) + packet(changed(outs[12], 269, 0))),
           ["packet 13", "packet 0", "beacon 0 60 0 0", "rates" + " 0" * 12])
+
+
+def to_second(body):
+    return counted(10, body)
+
+
+def to_first(body):
+    return counted(11, body)
+
+
+# The first edition's code, and the second's of the same least count: 0, 4,095, 4,096, 2,049 x 2, 999,936 and 4,095 x 4,096.
+SAME_COUNT = {0x0000: 0x0000, 0x0FFF: 0x0FFF, 0x1800: 0x1000, 0x1801: 0x1002, 0x8F42: 0x8E84, 0xCFFF: 0xCFFE}
+
+
+def conversions():
+    """From one edition to the other (document 02, Point 6): each rate's least count stays, or the packet is refused."""
+    stream, want = b"", []
+    for first, second in SAME_COUNT.items():
+        stream += to_second(beacon(first, 0)) + to_first(beacon(second, 2)) + to_first(beacon(second, 1))
+        want += ["second 0", "out " + beacon(second, 2).hex()] + ["first 0", "out " + beacon(first, 0).hex()] * 2
+    check("replay: the same counts in the other edition", run("replay", stream), want)
+    odd = [0x1001, 0x8E85, 0xCFFF]
+    check("replay: counts that the first edition has not", run("replay", b"".join(to_first(beacon(c, m)) for c in odd for m in (1, 2))), ["first 17"] * 6)
+    # A beacon packet of one odd code among even ones, and a fault before it.
+    one = changed(changed(beacon(0x1000, 1), 33, 0x10), 34, 1)
+    good, sample = beacon(0x1800, 0), with_sum(bytes.fromhex("0a5ec00001090000003c00").ljust(272, b"\0"))
+    cases = [(one, 13, 17), (changed(one, 270, 1), 13, 13), (sample, 13, 13), (good, 0, 13), (beacon(0x1000, 1), 13, 0),
+             (beacon(0x1000, 2), 13, 0), (beacon(0x1000, 3), 13, 13), (beacon(0x1000, 0), 13, 13), (beacon(0xD000, 2), 13, 13),
+             (good[:-1], 11, 11), (b"", 11, 11), (changed(good, 1, 0x52), 11, 11), (good[:-1] + bytes([good[-1] ^ 1]), 12, 12)]
+    got = [x for x in run("replay", b"".join(to_second(p) + to_first(p) for p, _, _ in cases)).splitlines() if not x.startswith("out ")]
+    check("replay: what is not converted", "".join(x + "\n" for x in got), [x for _, s, f in cases for x in (f"second {s}", f"first {f}")])
 
 
 # ---- listing packets (document 02, Point 1)
@@ -632,19 +641,16 @@ def failed_writes():
 
 def interrupted():
     """Reads and writes that a signal interrupts, and that move three bytes at most, change nothing."""
-    with tempfile.TemporaryDirectory() as room:
-        library = os.path.join(room, "libinterrupts.so")
-        subprocess.run(["cc", "-O2", "-shared", "-fPIC", "-o", library, os.path.join(HERE, "interrupts.c")], check=True)
+    with interrupting() as environment:
         for program in PROGRAMS:
-            printed, line, status = run_on(program, input=INTERVAL * 2 + b"\xff", env=dict(os.environ, LD_PRELOAD=library))
+            printed, line, status = run_on(program, input=INTERVAL * 2 + b"\xff", env=environment)
             want = interval(program, 0)[0] + interval(program, 1)[0] + ["bad record", "0"]
             check(f"{program}: interrupted, three bytes at a time", without_packets(printed) + line + f"{status}\n", want)
-            printed, line, _ = run_on(program, None, input=INTERVAL, env=dict(os.environ, LD_PRELOAD=library))
+            printed, line, _ = run_on(program, None, input=INTERVAL, env=environment)
             check(f"{program}: interrupted, no tables.bin", printed + line, ["refused 1"])
 
 
-for case in (start_and_end, ranges, million, columns, samples, readings, commands, zero_bytes, long_bodies, loads, asks, bad_bytes, packets, editions, listings, gathers, example, session, frames, pieces,
+for case in (start_and_end, ranges, million, columns, samples, readings, commands, zero_bytes, long_bodies, loads, asks, bad_bytes, packets, editions, conversions, listings, gathers, example, session, frames, pieces,
              pieces_of_minute, held_open, failed_reads, failed_writes, interrupted):
     case()
-print(f"{counts['passed']} passed, {counts['failed']} failed")
-sys.exit(counts["failed"] != 0)
+finish()

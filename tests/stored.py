@@ -5,15 +5,17 @@ that of limit_cases comes from the second implementation (compare.sh).
     python3 tests/stored.py --write     writes them anew
 
 No program runs here. The rules are those of paper.py, which is held to "Numbers at the edges" first. The inputs:
-- replay: its stored tables.bin and stdin, which `reference/target/release/streams 2624 400 FOLDER` writes;
+- replay: its stored tables.bin and stdin, which `reference/target/release/streams 2992 400 FOLDER` writes;
 - minute: the example of document 01, which is its stored stdin;
 - command_cases: command_inputs.py, which its stored stdin is compared with too;
+- convert: archive.py, which its stored stdin is compared with too;
 - sort_cases and packet_cases: those in their sources, repeated below.
 """
 import functools
 import os
 import sys
 
+import archive
 import command_inputs
 import paper
 from paper import Event, Processor, Settings, get_numbers
@@ -34,7 +36,8 @@ def joined(*values):
 # ---- replay: the records and answers of the program that replays a list of calls
 
 BODY_BYTES = {1: 7, 2: 16, 4: 4, 7: 6, 9: 0}
-COUNTED = (3, 5, 6, 8)
+COUNTED = (3, 5, 6, 8, 10, 11)
+CONVERTERS = {10: ("second", paper.CONVERTED), 11: ("first", paper.FIRST)}
 
 
 def replay_records(stream):
@@ -79,9 +82,13 @@ def packet_lines(p):
     return lines + ["records " + p.records.hex()]
 
 
+def written_lines(call, answer):
+    """A call that writes a packet, or answers a number."""
+    return [joined(call, 0), "out " + answer.hex()] if isinstance(answer, bytes) else [joined(call, answer)]
+
+
 def listing_lines(processor, body):
-    answer = processor.listing(int.from_bytes(body[:2], "big"), int.from_bytes(body[2:], "big"))
-    return ["listing 0", "out " + answer.hex()] if isinstance(answer, bytes) else [joined("listing", answer)]
+    return written_lines("listing", processor.listing(int.from_bytes(body[:2], "big"), int.from_bytes(body[2:], "big")))
 
 
 def ground_lines(gatherer, kind, body):
@@ -90,6 +97,9 @@ def ground_lines(gatherer, kind, body):
         return packet_lines(paper.read_packet(body))
     if kind == 8:
         return [joined("gather", gatherer.gather(body), gatherer.missing())]
+    if kind in CONVERTERS:
+        call, wanted = CONVERTERS[kind]
+        return written_lines(call, paper.convert(body, wanted))
     lines = [joined("gathered", gatherer.missing(), gatherer.tables.hex())]
     # A fresh gatherer begins.
     gatherer.__init__()
@@ -98,7 +108,7 @@ def ground_lines(gatherer, kind, body):
 
 def answer_lines(processor, gatherer, kind, body):
     """One call, and what replay prints of its answer."""
-    if kind in (6, 8, 9):
+    if kind in (6, 8, 9, *CONVERTERS):
         return ground_lines(gatherer, kind, body)
     if kind == 1:
         return [joined("event", processor.event(event_of(body)))]
@@ -214,14 +224,14 @@ RATE_DAMAGE = [
     ("summed", 0, 42), ("summed", 0, 26), ("summed", 0, 2), ("summed", 1, 92), ("summed", 2, 128), ("summed", 5, 8),
     ("summed", 10, 1), ("summed", 3, 1), ("summed", 9, 121), ("summed", 268, 1), ("changed", 20, 1), ("changed", 271, 0),
     ("summed", 13, 23), ("summed", 13, 216), ("summed", 13, 200), ("summed", 259, 1), ("summed", 261, 209),
-    ("summed", 261, 216), ("summed", 263, 193), ("summed", 269, 0), ("summed", 269, 2), ("summed", 270, 1),
+    ("summed", 261, 216), ("summed", 263, 193), ("summed", 269, 0), ("summed", 269, 2), ("summed", 269, 3), ("summed", 270, 1),
 ]
 SAMPLE_DAMAGE = [
     ("summed", 1, 105), ("summed", 1, 103), ("summed", 269, 9), ("summed", 270, 1), ("summed", 14, 11),
     ("summed", 14, 234), ("summed", 14, 12), ("summed", 14, 232), ("summed", 42, 1), ("changed", 14, 0),
 ]
 BEACON_DAMAGE = [
-    ("summed", 1, 113), ("summed", 35, 1), ("summed", 266, 1), ("summed", 269, 0), ("summed", 269, 2), ("summed", 270, 1),
+    ("summed", 1, 113), ("summed", 35, 1), ("summed", 266, 1), ("summed", 269, 0), ("summed", 269, 2), ("summed", 269, 3), ("summed", 270, 1),
     ("summed", 11, 255), ("changed", 35, 1),
 ]
 
@@ -412,6 +422,8 @@ def main():
     edges()
     deal("command_cases", "stdin", text(case.hex() for case in command_inputs.cases()))
     deal("minute", "stdin", EXAMPLE)
+    deal("convert", "stdin", b"".join(archive.ARCHIVE))
+    deal("convert", "stdout", archive.written(archive.ARCHIVE, paper.CONVERTED))
     for program in (sort_cases, packet_cases, command_cases, minute, replay):
         deal(program.__name__, "stdout", text(program()))
     print(f"{counts['passed']} passed, {counts['failed']} failed")

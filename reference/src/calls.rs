@@ -22,6 +22,8 @@ pub enum Call {
     Listing(u16, u32),
     Gather(Vec<u8>),
     Gathered,
+    ToSecond(Vec<u8>),
+    ToFirst(Vec<u8>),
 }
 
 /// Reads one record: none where the input stops before a kind byte, an error for an
@@ -43,6 +45,8 @@ pub fn read(input: &mut impl Read, form: Form) -> Result<Option<Call>> {
         }
         (8, Form::Replay) => Call::Gather(counted(input)?),
         (9, Form::Replay) => Call::Gathered,
+        (10, Form::Replay) => Call::ToSecond(counted(input)?),
+        (11, Form::Replay) => Call::ToFirst(counted(input)?),
         _ => return Err(Error::from(ErrorKind::InvalidData)),
     };
     Ok(Some(call))
@@ -109,6 +113,8 @@ pub fn write(call: &Call, form: Form, stream: &mut Vec<u8>) -> bool {
         }
         (Call::Gather(body), _) => write_counted(8, body, stream),
         (Call::Gathered, _) => stream.push(9),
+        (Call::ToSecond(body), _) => write_counted(10, body, stream),
+        (Call::ToFirst(body), _) => write_counted(11, body, stream),
     }
     true
 }

@@ -36,3 +36,5 @@ pub const LISTING_ADDRESS: Number = 14;
 pub const STAGED_BAD: Number = 15;
 /// A commit whose sum is not that of the staged bytes; after 15.
 pub const COMMIT_SUM: Number = 16;
+/// On the way back: no first-edition code has some rate's least count; after 13.
+pub const NO_FIRST_CODE: Number = 17;

@@ -27,6 +27,12 @@ impl Edition {
             Edition::Second => second_least_count(code),
         }
     }
+
+    /// The code whose least count is n; none if its code has a lesser one.
+    pub fn code_of_least(self, n: u32) -> Option<u16> {
+        let code = self.code(n);
+        (self.least_count(code) == Some(n)).then_some(code)
+    }
 }
 
 /// 4,096 s + floor(n / 2^s), s the least with quotient < 4,096.
@@ -149,6 +155,16 @@ mod tests {
             }
         }
         assert_eq!((0..=u16::MAX).filter(|c| Second.least_count(*c).is_some()).count(), 0xD000);
+    }
+
+    #[test]
+    fn a_code_of_a_least_count() {
+        assert_eq!(First.code_of_least(4_096), Some(0x1800));
+        assert_eq!(First.code_of_least(4_097), None);
+        assert_eq!(First.code_of_least(4_098), Some(0x1801));
+        assert_eq!(Second.code_of_least(4_097), Some(0x1001));
+        // From 8,192 on every second count is no least count.
+        assert_eq!(Second.code_of_least(8_193), None);
     }
 
     #[test]

@@ -12,6 +12,7 @@ pub mod samples;
 pub mod sorting;
 
 pub mod codes;
+pub mod convert;
 pub mod gatherer;
 pub mod listing;
 pub mod packets;
@@ -25,6 +26,7 @@ pub mod limits;
 pub mod processor;
 pub mod station;
 
+pub mod archive;
 pub mod calls;
 pub mod programs;
 

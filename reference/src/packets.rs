@@ -9,6 +9,8 @@ use crate::samples::Slots;
 use crate::sorting::Counts;
 
 pub const PACKET_BYTES: usize = 272;
+/// The bytes of one packet.
+pub type Bytes = [u8; PACKET_BYTES];
 pub const OUTPUT_BYTES: usize = 13 * PACKET_BYTES;
 
 pub const RATE: u16 = 605;
@@ -20,17 +22,19 @@ pub const BEACON: u16 = 624;
 pub const MARK_AT: usize = 269;
 pub const FIRST_MARK: u8 = 0;
 pub const SECOND_MARK: u8 = 1;
+/// Second edition too: converted from the first on the ground (document 02, Point 6).
+pub const CONVERTED_MARK: u8 = 2;
 
 /// The codes of a rate packet, totals and boxes, and those of a beacon packet.
 pub const RATE_CODES: Range<usize> = CODES_AT..259;
 pub const BEACON_CODES: Range<usize> = CODES_AT..35;
-const CODES_AT: usize = 11;
+pub const CODES_AT: usize = 11;
 
 /// The edition that a mark stands for.
 pub fn edition(mark: u8) -> Option<Edition> {
     match mark {
         FIRST_MARK => Some(Edition::First),
-        SECOND_MARK => Some(Edition::Second),
+        SECOND_MARK | CONVERTED_MARK => Some(Edition::Second),
         _ => None,
     }
 }

@@ -103,13 +103,24 @@ fn replay(station: &mut Station, call: Call, out: &mut impl Write) -> Result<()>
             let number = station.gather(&packet);
             writeln!(out, "gather {number} {}", station.gatherer.missing())
         }
-        Call::Gathered => {
-            write!(out, "gathered {} ", station.gatherer.missing())?;
-            digits(out, &station.gathered)?;
-            station.gather_anew();
-            Ok(())
+        Call::Gathered => print_gathered(out, station),
+        Call::ToSecond(packet) => {
+            let number = station.to_second(&packet);
+            print_written(out, "second", number, &station.converted)
+        }
+        Call::ToFirst(packet) => {
+            let number = station.to_first(&packet);
+            print_written(out, "first", number, &station.converted)
         }
     }
+}
+
+/// What is gathered; then a fresh gatherer begins.
+fn print_gathered(out: &mut impl Write, station: &mut Station) -> Result<()> {
+    write!(out, "gathered {} ", station.gatherer.missing())?;
+    digits(out, &station.gathered)?;
+    station.gather_anew();
+    Ok(())
 }
 
 /// A call's name and number, and where this is 0 the packet it wrote.

@@ -1,4 +1,4 @@
-//! The ground reader: document 01, "Packets" and causes 11 to 13; document 02, Point 5: both
+//! The ground reader: document 01, "Packets" and causes 11 to 13; document 02, Points 5 and 6: both
 //! editions of the rate code, by the packet's mark.
 
 use crate::causes::*;
@@ -275,7 +275,7 @@ mod tests {
         for (code, first, second) in codes {
             let rate = of_code(rate_packet(), RATE_CODES, code);
             let beacon = of_code(beacon_packet(), BEACON_CODES, code);
-            for (mark, least) in [(0, first), (1, second), (2, None), (3, None), (255, None)] {
+            for (mark, least) in [(0, first), (1, second), (2, second), (3, None), (255, None)] {
                 let number = if least.is_some() { DONE } else { BODY };
                 assert_eq!(changed(rate, 269, mark), number, "code {code:x}, mark {mark}");
                 assert_eq!(changed(beacon, 269, mark), number, "code {code:x}, mark {mark}");

@@ -1,12 +1,13 @@
-//! A processor, and a gatherer on the ground, with the buffers that the programs lend them,
-//! the same ones throughout: tables as read, all others zero at first.
+//! A processor, and on the ground a gatherer and the converters, with the buffers that the
+//! programs lend them, the same ones throughout: tables as read, all others zero at first.
 
 use crate::causes::Number;
 use crate::commands::ECHO_BYTES;
+use crate::convert;
 use crate::gatherer::Gatherer;
 use crate::judged;
 use crate::loads::{MARK_BYTES, STAGING_BYTES};
-use crate::packets::{OUTPUT_BYTES, PACKET_BYTES};
+use crate::packets::{Bytes, OUTPUT_BYTES, PACKET_BYTES};
 use crate::processor::{Closed, Processor};
 use crate::samples::SLOTS;
 use crate::sorting::Event;
@@ -25,10 +26,12 @@ pub struct Station {
     pub sum: u32,
     pub output: Vec<u8>,
     /// The listing packet written last.
-    pub listed: [u8; PACKET_BYTES],
+    pub listed: Bytes,
     pub gatherer: Gatherer,
     /// The gatherer's table buffer.
     pub gathered: Vec<u8>,
+    /// The packet converted last.
+    pub converted: Bytes,
     /// Whether an event's call also judges the limits of a state that goes by value.
     pub judged: bool,
 }
@@ -48,6 +51,7 @@ impl Station {
             listed: [0; PACKET_BYTES],
             gatherer: Gatherer::FRESH,
             gathered: vec![0; TABLE_BYTES],
+            converted: [0; PACKET_BYTES],
             judged: false,
         })
     }
@@ -94,5 +98,13 @@ impl Station {
     pub fn gather_anew(&mut self) {
         self.gatherer = Gatherer::FRESH;
         self.gathered.fill(0);
+    }
+
+    pub fn to_second(&mut self, packet: &[u8]) -> Number {
+        convert::to_second(packet, &mut self.converted)
+    }
+
+    pub fn to_first(&mut self, packet: &[u8]) -> Number {
+        convert::to_first(packet, &mut self.converted)
     }
 }

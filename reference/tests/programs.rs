@@ -58,7 +58,7 @@ fn a_line_of_minute_ends_before_its_first_zero_byte() {
 }
 
 #[test]
-fn bad_records() {
+fn bad_records_of_minute() {
     for stream in [
         &[0][..],
         &[5],
@@ -66,6 +66,8 @@ fn bad_records() {
         &[7, 0, 0, 0, 0, 0, 0],
         &[8, 0, 0],
         &[9],
+        &[10, 0, 0],
+        &[11, 0, 0],
         &[255],
         &[1, 0, 0, 0, 0, 0, 0],
         &[2],
@@ -75,9 +77,13 @@ fn bad_records() {
         let before = [&CLOSE[..], stream].concat();
         assert_eq!(run(Form::Minute, &before), "0 0 0 0 0 0\nbad record\n", "{stream:?}");
     }
+}
+
+#[test]
+fn bad_records_of_replay() {
     for stream in [
         &[0][..],
-        &[10],
+        &[12],
         &[1],
         &[3],
         &[3, 0],
@@ -89,6 +95,11 @@ fn bad_records() {
         &[7, 0, 0, 0, 0, 0],
         &[8, 0],
         &[8, 0, 1],
+        &[10],
+        &[10, 0],
+        &[10, 0, 1],
+        &[11],
+        &[11, 1, 16, 0],
     ] {
         assert_eq!(run(Form::Replay, stream), "bad record\n", "{stream:?}");
     }
@@ -214,4 +225,33 @@ fn replay_prints_listing_packets_and_what_is_gathered() {
         format!("gathered 250 {}\n", digits(&[], TABLE_BYTES)),
     ];
     assert_eq!(run_on(Form::Replay, tables, &stream), expected.concat());
+}
+
+#[test]
+fn replay_prints_converted_packets() {
+    // A beacon packet of frame 7 and time 60 with the rates 4,096, 999,936 and 4,095 in it.
+    let packet = |codes: [u8; 6], mark: u8, sum: u8| {
+        let mut packet = vec![0x0A, 0x70, 0xC0, 7, 1, 9, 0, 0, 0, 0x3C, 0];
+        packet.extend(codes);
+        packet.resize(267, 0);
+        packet.extend([0, 7, mark, 0, sum]);
+        packet
+    };
+    // 0A + 70 + C0 + 7 + 1 + 9 + 3C + 7 = 10 + 112 + 192 + 7 + 1 + 9 + 60 + 7 = 398 for both, and
+    // 18 + 8F + 42 + F + FF = 24 + 143 + 66 + 15 + 255 = 503: 901 = 3 x 256 + 133;
+    // 10 + 8E + 84 + F + FF + mark = 16 + 142 + 132 + 15 + 255 + 2 = 562: 960 = 3 x 256 + 192.
+    let first = packet([0x18, 0, 0x8F, 0x42, 0x0F, 0xFF], 0, 133);
+    let second = packet([0x10, 0, 0x8E, 0x84, 0x0F, 0xFF], 2, 192);
+    // One count more than 4,096, under the mark of packets written aboard: one more and one less.
+    let odd = packet([0x10, 1, 0x8E, 0x84, 0x0F, 0xFF], 1, 192);
+    let record = |kind: u8, packet: &[u8]| [&[kind, 1, 16], packet].concat();
+    let there = [record(10, &first), record(10, &second), vec![10, 0, 0], record(10, &odd)];
+    let back = [record(11, &second), record(11, &first), record(11, &odd), vec![11, 0, 1, 9]];
+    let expected = [
+        format!("second 0\nout {}\nsecond 13\nsecond 11\nsecond 13\n", digits(&second, 272)),
+        format!("first 0\nout {}\nfirst 13\nfirst 17\nfirst 11\n", digits(&first, 272)),
+    ];
+    assert_eq!(run(Form::Replay, &[there.concat(), back.concat()].concat()), expected.concat());
+    let read = "packet 0\nbeacon 7 60 7 2\nrates 4096 999936 4095 0 0 0 0 0 0 0 0 0\n";
+    assert_eq!(run(Form::Replay, &record(6, &second)), read);
 }

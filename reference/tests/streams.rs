@@ -200,7 +200,8 @@ fn codes_at_the_edges_stand_under_every_mark() {
         }
     }
     let first = [0x0FFF, 0x1800, 0xCFFF].map(|code| (0, code));
-    let second = [0x0FFF, 0x1000, 0x17FF, 0x1800, 0xCFFF].map(|code| (1, code));
+    let second = [0x0FFF, 0x1000, 0x17FF, 0x1800, 0xCFFF];
+    let second = [1, 2].into_iter().flat_map(|mark| second.map(|code| (mark, code)));
     assert_eq!(accepted, first.into_iter().chain(second).collect());
 }
 
@@ -318,6 +319,10 @@ fn the_gatherer_holds_what_it_accepted() {
     assert!(tables_gathered > 0);
 }
 
+/// Lines of `replay` that begin with a number answered.
+const KINDS: [&str; 9] =
+    ["event", "reading", "line", "package", "packet", "listing", "gather", "second", "first"];
+
 #[test]
 fn every_cause_of_a_short_stream_occurs() {
     let mut seen = BTreeSet::new();
@@ -329,9 +334,7 @@ fn every_cause_of_a_short_stream_occurs() {
         for line in String::from_utf8(out).unwrap().lines() {
             let mut words = line.split(' ').map(str::to_string);
             let kind = words.next().unwrap();
-            if ["event", "reading", "line", "package", "packet", "listing", "gather"]
-                .contains(&kind.as_str())
-            {
+            if KINDS.contains(&kind.as_str()) {
                 seen.insert((kind, words.next().unwrap().parse::<u8>().unwrap()));
             }
         }
@@ -348,6 +351,8 @@ fn every_cause_of_a_short_stream_occurs() {
     all("packet", &[0, 11, 12, 13]);
     all("listing", &[0, 14]);
     all("gather", &[0, 11, 12, 13, 14]);
+    all("second", &[0, 11, 12, 13]);
+    all("first", &[0, 11, 12, 13, 17]);
 }
 
 #[test]

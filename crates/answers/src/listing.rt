@@ -1,11 +1,11 @@
-// The answers to a listing and a gather, and what was gathered, printed.
+// The answers of calls that write one packet, and of the gatherer, printed.
 use crate::calls::print_buffer;
 use crate::calls::print_number;
 use crate::close::print_out;
 
-// The packet is printed only where it was written.
-pub fn print_listing(text: &mut [u8], at: &mut usize, number: u8, packet: &[u8]) {
-    buffered::text::bytes(text, at, b"listing");
+// The call's name and number; the packet only where it was written.
+pub fn print_written(text: &mut [u8], at: &mut usize, call: &[u8], number: u8, packet: &[u8]) {
+    buffered::text::bytes(text, at, call);
     print_number(text, at, number);
     if number == causes::CARRIED_OUT {
         print_out(text, at, packet);

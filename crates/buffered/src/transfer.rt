@@ -61,6 +61,13 @@ pub fn write_all(fd: i32, bytes: &[u8]) -> bool {
     false
 }
 
+// Writes the digits of a number, in base ten; whether all of them.
+pub fn write_decimal(fd: i32, n: u64) -> bool {
+    let mut digits = [0u8; 20];
+    let k = io::decimal(n, &mut digits);
+    write_all(fd, &digits[..k])
+}
+
 // A function of its own: that a number fits its type is known of an argument, not of a call's result.
 fn wide(reason: i32) -> isize {
     reason as isize
@@ -77,6 +84,6 @@ pub fn tell(what: &[u8]) {
     write_all(STDERR_FILENO, b": ");
     write_all(STDERR_FILENO, what);
     write_all(STDERR_FILENO, b": errno ");
-    io::print_decimal(STDERR_FILENO, reason as u64);
+    write_decimal(STDERR_FILENO, reason as u64);
     write_all(STDERR_FILENO, b"\n");
 }

@@ -36,6 +36,21 @@ passed-first f (c ∷ cs) ds h e =
     go true q n ih e = (q, ih e)
     go false q n ih e = absurd (false≢true (sym (ap not e) ∙ n))
 
+-- a refusal by the first checks stands, whatever those behind them say
+pub number-before : (cs ds : List Check) → (numberBy cs ≡ 0 → ⊥) → numberBy (cs ++ ds) ≡ numberBy cs
+number-before [] ds h = absurd (h refl)
+number-before (c ∷ cs) ds h = go (c .0) h (number-before cs ds)
+  where
+    go : (b : Bool) → (cond b (numberBy cs) (c .1) ≡ 0 → ⊥) → ((numberBy cs ≡ 0 → ⊥) → numberBy (cs ++ ds) ≡ numberBy cs)
+        → cond b (numberBy (cs ++ ds)) (c .1) ≡ cond b (numberBy cs) (c .1)
+    go true h ih = ih h
+    go false h ih = refl
+
+-- where the first are passed, those behind them decide
+pub number-behind : (cs ds : List Check) → Passed cs → numberBy (cs ++ ds) ≡ numberBy ds
+number-behind [] ds h = refl
+number-behind (c ∷ cs) ds h = rw (h .0) (number-behind cs ds (h .1))
+
 -- the number of a call that is refused applies
 pub number-applies : (cs : List Check) → (numberBy cs ≡ 0 → ⊥) → Applies (numberBy cs) cs
 number-applies [] h = absurd (h refl)

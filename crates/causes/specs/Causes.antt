@@ -69,3 +69,7 @@ badStaged = 15
 -- document 02, Point 4: "16 when commit's sum differs from that of the bytes lent below the reach"
 abbrev pub sumDiffers : ℕ
 sumDiffers = 16
+
+-- document 02, Point 6: "17 when no first-edition code has some rate's least count, after 13"
+abbrev pub noFirstCode : ℕ
+noFirstCode = 17

@@ -53,6 +53,9 @@ pub const BAD_STAGED: u8 = 15;
 // A commit's sum is not that of the bytes below the reach.
 pub const SUM_DIFFERS: u8 = 16;
 
+// A rate's least count is that of no code of the first edition.
+pub const NO_FIRST_CODE: u8 = 17;
+
 // One test of a call: its cause where it fails, and otherwise what the tests behind it say.
 pub fn unless(passes: bool, cause: u8, rest: u8) -> u8
     ensures { λ r. ⌜ r ≡ cond passes rest cause ⌝ }

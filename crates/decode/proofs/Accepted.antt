@@ -18,7 +18,7 @@ use Rattle.settings.specs.Settings.{slotCount}
 use Rattle.sample_record.specs.Record.{recordGood}
 use Rattle.packet.specs.declared.stamp.Stamp.{Stamp}
 use Rattle.rate_code.specs.Rate.{countLimit}
-use Rattle.rate_code.specs.Editions.{secondMark, codeBy, leastBy, validBy}
+use Rattle.rate_code.specs.Editions.{convertedMark, codeBy, leastBy, validBy}
 use Rattle.packet.specs.Layout.{bodyAt, innerBytes, secondaryFlag, bodyBytes, codeBytes}
 use Rattle.packet.specs.Layout.{rateCount, recordCount, beaconCount, beaconEnd, beaconUnused}
 use Rattle.packet.specs.Layout.{gapAt, hvstepAt, limhiAt, hvFlag, eonlyFlag, toferrorFlag, junkFlag}
@@ -98,17 +98,17 @@ module _ (a : ℕ) (st : Stamp) (body : List ℕ) (lb : length body ≡ bodyByte
   last-zero : (marks : ℕ) → StampFits marks st → lastOf P ≡ 0
   last-zero marks h = back.last-back a st body lb ∙ h .last-is
 
-  end-back : StampFits secondMark st → endGood P ≡ true
+  end-back : StampFits convertedMark st → endGood P ≡ true
   end-back h =
-      both (le-leb (markOf P) secondMark (omega (arith, back.mark-back a st body lb, h .mark-fits)))
-      (eq-eqb _ _ (last-zero secondMark h))
+      both (le-leb (markOf P) convertedMark (omega (arith, back.mark-back a st body lb, h .mark-fits)))
+      (eq-eqb _ _ (last-zero convertedMark h))
 
 -- ---- a rate packet
 
 pub flags-le : (s : Settings) → (bitOf (s .hv) ≤ 1) × (bitOf (s .eonly) ≤ 1) × (bitOf (s .toferror) ≤ 1) × (bitOf (s .junk) ≤ 1)
 flags-le s = (bit-small (s .hv), bit-small (s .eonly), bit-small (s .toferror), bit-small (s .junk))
 
-module _ (st : Stamp) (fits : StampFits secondMark st) (totals boxes : List ℕ) (s : Settings) (sum : ℕ) (v : RateValues totals boxes s sum) where
+module _ (st : Stamp) (fits : StampFits convertedMark st) (totals boxes : List ℕ) (s : Settings) (sum : ℕ) (v : RateValues totals boxes s sum) where
   abbrev rate-body : List ℕ
   rate-body = rateBody (st .mark) totals boxes s sum
 
@@ -227,7 +227,7 @@ module _ (st : Stamp) (fits : StampFits lastSample st) (records : List ℕ) (v :
 
 -- ---- a beacon packet
 
-module _ (st : Stamp) (fits : StampFits secondMark st) (beacons : List ℕ) (v : BeaconValues beacons) where
+module _ (st : Stamp) (fits : StampFits convertedMark st) (beacons : List ℕ) (v : BeaconValues beacons) where
   abbrev beacon-body : List ℕ
   beacon-body = beaconBody (st .mark) beacons
 

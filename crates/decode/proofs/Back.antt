@@ -33,6 +33,13 @@ within a b k h = List·getD-append a b 0 k h
 pub both : {a b : Bool} → a ≡ true → b ≡ true → (a && b) ≡ true
 both p q = λ i. p i && q i
 
+-- the sum behind any 271 bytes is right
+pub summed-good : (xs : List ℕ) → length xs ≡ sumAt → sumGood (summed xs) ≡ true
+unfolding sumGood summed
+summed-good xs l =
+    let v : ℕ = total xs % 256 in
+    eq-eqb _ _ (getD-at xs v [] 0 sumAt l ∙ ap (λ (x : List ℕ). total x % 256) (sym (take-at xs (one v) sumAt l)))
+
 -- ---- header and sum around 260 bytes of any kind
 
 module _ (a q t : ℕ) (inner : List ℕ) (li : length inner ≡ innerBytes) where
@@ -69,12 +76,8 @@ module _ (a q t : ℕ) (inner : List ℕ) (li : length inner ≡ innerBytes) whe
       within (H ++ inner) _ (bodyAt + i) (omega (arith, length-summand a q t inner li)) ∙ behind H inner bodyAt i (length-header a q t)
 
   pub sum-back : sumGood E ≡ true
-  unfolding sumGood enveloped summed
-  sum-back =
-      let I : List ℕ = header a q t ++ inner in
-      let l : length I ≡ sumAt = length-summand a q t inner li in
-      let v : ℕ = total I % 256 in
-      eq-eqb _ _ (getD-at I v [] 0 sumAt l ∙ ap (λ (x : List ℕ). total x % 256) (sym (take-at I (one v) sumAt l)))
+  unfolding enveloped
+  sum-back = summed-good (header a q t ++ inner) (length-summand a q t inner li)
 
   module _ (ha : a < secondaryFlag) where
     pub application-back : applicationOf E ≡ a

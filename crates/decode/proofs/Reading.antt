@@ -1,17 +1,21 @@
 -- A packet is accepted exactly where it passes every test, and then has 272 bytes and the codes of its kind. Assumes nothing.
 use mathlib.Core.Path.{_≡_, refl, sym, ap, _∙_}
-use mathlib.Core.Bool.{true}
+use mathlib.Core.Bool.{true, _&&_}
 use mathlib.Core.List.{List}
-use Prim.Native.Nat.{ℕ}
-use lib.ListN.{length}
+use Prim.Native.Nat.{ℕ, _%_}
+use lib.Dec.{leb, eqb}
+use lib.ListN.{length, getD}
 use borrow.Author.Tests.{eqb-true}
 use Rattle.causes.specs.Checks.{Passed}
 use Rattle.causes.proofs.CheckLaws.{all-passed}
-use Rattle.wire.proofs.Lists.{and-left}
-use Rattle.packet.specs.Layout.{packetBytes, rateCount, beaconCount}
+use Rattle.wire.specs.Bytes.{at16}
+use Rattle.wire.proofs.Lists.{and-left, and-right}
+use Rattle.settings.specs.Settings.{slotCount}
+use Rattle.packet.specs.Layout.{packetBytes, rateCount, beaconCount, gapAt, limhiAt, junkFlag, beaconEnd, beaconUnused}
 use Rattle.decode.specs.declared.kind.Kind.{Kind}
 use Rattle.decode.specs.declared.kind.Kind.the-variants.{Rate, Beacon}
-use Rattle.decode.specs.Read.{applicationOf, kindOf, headerGood, sumGood, codesGood, rateGood, beaconGood, bodyGood}
+use Rattle.decode.specs.Read.{applicationOf, kindOf, flagByte, headerGood, sumGood, codesGood, zerosGood, endGood}
+use Rattle.decode.specs.Read.{rateGood, beaconGood, bodyGood}
 use Rattle.decode.specs.Read.{readChecks, readNumber}
 
 -- what has a header has 272 bytes
@@ -24,7 +28,7 @@ pub accepted-is : (xs : List ℕ) → headerGood xs ≡ true → sumGood xs ≡ 
 unfolding readNumber
 accepted-is xs h s b = rw (h, s, b)
 
-passed : (xs : List ℕ) → readNumber xs ≡ 0 → Passed (readChecks xs)
+pub passed : (xs : List ℕ) → readNumber xs ≡ 0 → Passed (readChecks xs)
 unfolding readNumber
 passed xs e = all-passed (readChecks xs) refl e
 
@@ -42,10 +46,28 @@ pub accepted-beacon : (xs : List ℕ) → bodyGood Beacon xs ≡ true → beacon
 unfolding bodyGood
 accepted-beacon xs e = e
 
+pub rate-accepted : (xs : List ℕ) → rateGood xs ≡ true → bodyGood Rate xs ≡ true
+unfolding bodyGood
+rate-accepted xs e = e
+
+pub beacon-accepted : (xs : List ℕ) → beaconGood xs ≡ true → bodyGood Beacon xs ≡ true
+unfolding bodyGood
+beacon-accepted xs e = e
+
 pub rate-codes : (xs : List ℕ) → rateGood xs ≡ true → codesGood rateCount xs ≡ true
 unfolding rateGood
 rate-codes xs e = and-left _ _ (and-left _ _ (and-left _ _ (and-left _ _ e)))
 
+pub rate-end : (xs : List ℕ) → rateGood xs ≡ true → endGood xs ≡ true
+unfolding rateGood
+rate-end xs e =
+    and-right (codesGood rateCount xs && eqb (getD xs gapAt 0) 0 && eqb (flagByte xs % junkFlag) 0 && leb (at16 xs limhiAt) slotCount)
+    (endGood xs) e
+
 pub beacon-codes : (xs : List ℕ) → beaconGood xs ≡ true → codesGood beaconCount xs ≡ true
 unfolding beaconGood
 beacon-codes xs e = and-left _ _ (and-left _ _ e)
+
+pub beacon-end : (xs : List ℕ) → beaconGood xs ≡ true → endGood xs ≡ true
+unfolding beaconGood
+beacon-end xs e = and-right (codesGood beaconCount xs && zerosGood beaconEnd beaconUnused xs) (endGood xs) e

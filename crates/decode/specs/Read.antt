@@ -13,7 +13,7 @@ use Rattle.wire.specs.Pieces.{table, each}
 use Rattle.settings.specs.declared.Settings.{Settings}
 use Rattle.settings.specs.Settings.{slotCount}
 use Rattle.sample_record.specs.Record.{recordGood}
-use Rattle.rate_code.specs.Editions.{secondMark, leastBy, validBy}
+use Rattle.rate_code.specs.Editions.{convertedMark, leastBy, validBy}
 use Rattle.packet.specs.Layout.{applicationAt, sequenceAt, lengthAt, timeAt, zeroAt, bodyAt, sumAt, packetBytes}
 use Rattle.packet.specs.Layout.{frameAt, markAt, lastAt}
 use Rattle.packet.specs.Layout.{secondaryFlag, sequenceFlags, sequenceCounts, lengthField}
@@ -65,9 +65,13 @@ codeAt xs i = at16 xs (bodyAt + codeBytes * i)
 abbrev pub recordAt : List ℕ → ℕ → ℕ
 recordAt xs i = at32 xs (bodyAt + recordBytes * i)
 
--- the least counts of the first n codes, in the edition of the packet's mark
+-- the least count of code i, in the edition of the packet's mark
+abbrev pub rateAt : List ℕ → ℕ → ℕ
+rateAt xs i = leastBy (markOf xs) (codeAt xs i)
+
+-- those of the first n codes
 unfoldable pub ratesOf : ℕ → List ℕ → List ℕ
-ratesOf n xs = table n (λ i. leastBy (markOf xs) (codeAt xs i))
+ratesOf n xs = table n (λ i. rateAt xs i)
 
 abbrev pub flagByte : List ℕ → ℕ
 flagByte xs = getD xs flagsAt 0
@@ -123,9 +127,9 @@ zerosGood at n xs = each n (λ i. eqb (getD xs (at + i) 0) 0)
 unfoldable pub recordsGood : ℕ → List ℕ → Bool
 recordsGood n xs = each n (λ i. recordGood (recordAt xs i))
 
--- byte 269 is the mark of an edition (document 02, Point 5); byte 270 has no use
+-- byte 269 is the mark of an edition (document 02, Points 5 and 6); byte 270 has no use
 abbrev pub endGood : List ℕ → Bool
-endGood xs = leb (markOf xs) secondMark && eqb (lastOf xs) 0
+endGood xs = leb (markOf xs) convertedMark && eqb (lastOf xs) 0
 
 -- byte 259 and the flags below junk's have no use in a rate packet; "LIMHI over 704" is a fault
 unfoldable pub rateGood : List ℕ → Bool

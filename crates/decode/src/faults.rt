@@ -99,7 +99,7 @@ fn end_good(packet: &[u8]) -> bool
     requires { ⌜ length (now packet) ≡ packetBytes ⌝ }
     ensures { λ r. ⌜ r ≡ endGood (now (packet .entry)) ⌝ }
 {
-    (packet[layout::MARK_AT] <= editions::SECOND_MARK) & (packet[layout::LAST_AT] == 0)
+    (packet[layout::MARK_AT] <= editions::CONVERTED_MARK) & (packet[layout::LAST_AT] == 0)
 }
 
 // The body of a rate packet: its codes, LIMHI, and what has no use.

@@ -16,7 +16,7 @@ use Rattle.wire.proofs.Lists.{decide, each-part, all-part}
 use Rattle.wire.proofs.Pieces.{words-append}
 use Rattle.settings.specs.Settings.{slotCount}
 use Rattle.sample_record.specs.Record.{recordGood}
-use Rattle.rate_code.specs.Editions.{secondMark}
+use Rattle.rate_code.specs.Editions.{secondMark, convertedMark}
 use Rattle.packet.specs.Packet.{packetBytes, lastSample, stampOf, ratePacket, samplePacket, beaconPacket}
 use Rattle.packet.specs.Ranges.{StampFits, SampleValues}
 use Rattle.packet.specs.TableSum.{tableSum}
@@ -136,7 +136,7 @@ module _ (e : Ended) (f : Fits e) where
 
 pub packets-received : PacketsReceived
 packets-received e f =
-    let second : StampFits secondMark (stampOf (e .frame) (e .time) secondMark) = stamped e f secondMark secondMark (omega arith) in
+    let second : StampFits convertedMark (stampOf (e .frame) (e .time) secondMark) = stamped e f secondMark convertedMark (omega arith) in
     let all-slots : length (e .slots) ≤ 64 * samplePackets = omega (arith, f .slots-are) in
     record {
       whole = packets-length e f;

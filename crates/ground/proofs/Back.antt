@@ -10,7 +10,7 @@ use Rattle.settings.specs.declared.Settings.{Settings}
 use Rattle.decode.specs.declared.kind.Kind.{Kind}
 use Rattle.decode.specs.declared.kind.Kind.the-variants.{Rate, Sample, Beacon}
 use Rattle.wire.specs.Pieces.{table, each}
-use Rattle.rate_code.specs.Editions.{secondMark, leastBy, validBy}
+use Rattle.rate_code.specs.Editions.{convertedMark, leastBy, validBy}
 use Rattle.packet.specs.declared.stamp.Stamp.{Stamp}
 use Rattle.packet.specs.Layout.{secondaryFlag, sequenceCounts, innerBytes, bodyBytes, rateCount, beaconCount}
 use Rattle.packet.specs.Packet.{rateApplication, sampleApplication, beaconApplication, packetOf, rateBody, beaconBody}
@@ -96,7 +96,7 @@ beacon-back st beacons h v =
     )
 
 -- a stamp without a mark fits the stamps of both editions
-unmarked-fits : (st : Stamp) → StampFits 0 st → StampFits secondMark st
+unmarked-fits : (st : Stamp) → StampFits 0 st → StampFits convertedMark st
 unmarked-fits st h = record {
   sequence-fits = h .sequence-fits;
   time-fits = h .time-fits;

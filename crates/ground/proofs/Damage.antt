@@ -13,7 +13,7 @@ use Rattle.wire.proofs.Lists.{each-append, each-zeros}
 use Rattle.packet.specs.declared.stamp.Stamp.{Stamp}
 use Rattle.packet.specs.Layout.{packetBytes, secondaryFlag, bodyBytes, beaconUnused}
 use Rattle.packet.specs.Packet.{rateApplication, sampleApplication, beaconApplication, lastSample, trailer, packetOf}
-use Rattle.rate_code.specs.Editions.{secondMark}
+use Rattle.rate_code.specs.Editions.{convertedMark}
 use Rattle.packet.specs.Packet.{codes, settingsBytes, rateBody, beaconBody, ratePacket, samplePacket, beaconPacket}
 use Rattle.decode.specs.Read.{sumGood, readNumber}
 use Rattle.packet.specs.Ranges.{StampFits}
@@ -53,7 +53,7 @@ rate-damage-refused st totals boxes s sum ys h v d =
     let S = bytes-settings s sum (omega (arith, v .limhi-fits)) (v .hvstep-fits) (v .sum-fits) in
     let C = each-append 256 (codes (st .mark) totals) (codes (st .mark) boxes) (bytes-codes (st .mark) totals (v .totals-fit))
     (bytes-codes (st .mark) boxes (v .boxes-fit)) in
-    packet-damage rateApplication secondMark st (rateBody (st .mark) totals boxes s sum) ys (omega arith) (omega arith)
+    packet-damage rateApplication convertedMark st (rateBody (st .mark) totals boxes s sum) ys (omega arith) (omega arith)
     (length-rate-body (st .mark) totals boxes s sum (v .totals-are) (v .boxes-are)) h
     (each-append 256 (codes (st .mark) totals ++ codes (st .mark) boxes) (settingsBytes s sum) C S) d
 
@@ -68,5 +68,5 @@ unfolding beaconPacket
 beacon-damage-refused st beacons ys h v d =
     let Z = each-zeros 256 beaconUnused (omega arith) in
     let B = each-append 256 (codes (st .mark) beacons) (zeros beaconUnused) (bytes-codes (st .mark) beacons (v .beacons-fit)) Z in
-    packet-damage beaconApplication secondMark st (beaconBody (st .mark) beacons) ys (omega arith) (omega arith)
+    packet-damage beaconApplication convertedMark st (beaconBody (st .mark) beacons) ys (omega arith) (omega arith)
     (length-beacon-body (st .mark) beacons (v .beacons-are)) h B d

@@ -3,3 +3,6 @@ pub mod Back
 pub mod Damage
 pub mod Gathers
 pub mod GatherDamage
+pub mod Recoded
+pub mod Reread
+pub mod Converts

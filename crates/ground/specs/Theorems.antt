@@ -15,7 +15,7 @@ use Rattle.decode.specs.declared.kind.Kind.{Kind}
 use Rattle.decode.specs.declared.kind.Kind.the-variants.{Rate, Sample, Beacon}
 use Rattle.packet.specs.declared.stamp.Stamp.{Stamp}
 use Rattle.rate_code.specs.Rate.{rateCode, leastCount, codeValid}
-use Rattle.rate_code.specs.Editions.{secondMark, codeBy, leastBy}
+use Rattle.rate_code.specs.Editions.{convertedMark, codeBy, leastBy}
 use Rattle.packet.specs.Layout.{packetBytes, rateCount, beaconCount, beaconUnused}
 use Rattle.packet.specs.Packet.{rateApplication, sampleApplication, beaconApplication, lastSample, packetOf, settingsBytes}
 use Rattle.packet.specs.Packet.{ratePacket, samplePacket, beaconPacket}
@@ -56,7 +56,7 @@ rateRead stamp totals boxes s sum =
 
 abbrev pub RateBack : Type 0
 RateBack =
-    (stamp : Stamp) (totals boxes : List ℕ) (s : Settings) (sum : ℕ) → StampFits secondMark stamp → RateValues totals boxes s sum
+    (stamp : Stamp) (totals boxes : List ℕ) (s : Settings) (sum : ℕ) → StampFits convertedMark stamp → RateValues totals boxes s sum
     → (readOf (ratePacket stamp totals boxes s sum) ≡ rateRead stamp totals boxes s sum)
     × (recordsOf (ratePacket stamp totals boxes s sum) ≡ [])
 
@@ -78,7 +78,7 @@ beaconRead stamp beacons =
 
 abbrev pub BeaconBack : Type 0
 BeaconBack =
-    (stamp : Stamp) (beacons : List ℕ) → StampFits secondMark stamp → BeaconValues beacons
+    (stamp : Stamp) (beacons : List ℕ) → StampFits convertedMark stamp → BeaconValues beacons
     → (readOf (beaconPacket stamp beacons) ≡ beaconRead stamp beacons)
     × (recordsOf (beaconPacket stamp beacons) ≡ [])
 
@@ -133,7 +133,7 @@ DamageRefused =
 -- so of every packet that is written
 abbrev pub RateDamageRefused : Type 0
 RateDamageRefused =
-    (stamp : Stamp) (totals boxes : List ℕ) (s : Settings) (sum : ℕ) (ys : List ℕ) → StampFits secondMark stamp → RateValues totals boxes s sum
+    (stamp : Stamp) (totals boxes : List ℕ) (s : Settings) (sum : ℕ) (ys : List ℕ) → StampFits convertedMark stamp → RateValues totals boxes s sum
     → OneByteOff (ratePacket stamp totals boxes s sum) ys → Refused ys
 
 abbrev pub SampleDamageRefused : Type 0
@@ -143,5 +143,5 @@ SampleDamageRefused =
 
 abbrev pub BeaconDamageRefused : Type 0
 BeaconDamageRefused =
-    (stamp : Stamp) (beacons ys : List ℕ) → StampFits secondMark stamp → BeaconValues beacons
+    (stamp : Stamp) (beacons ys : List ℕ) → StampFits convertedMark stamp → BeaconValues beacons
     → OneByteOff (beaconPacket stamp beacons) ys → Refused ys

@@ -3,6 +3,7 @@ ghost use mathlib.Core.Path.{_≡_};
 ghost use Rattle.ground.specs.Ground.{readOf, isSample, samplesIn, recordsOf};
 
 mod contents;
+pub mod convert;
 pub mod gather;
 
 use decode::faults::number;

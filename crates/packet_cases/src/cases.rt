@@ -75,6 +75,7 @@ pub fn rate(part: &[u8]) {
     // The mark of the first edition, whose codes these are not, and one of no edition.
     summed(part, 269, 0);
     summed(part, 269, 2);
+    summed(part, 269, 3);
     summed(part, 270, 1);
 }
 
@@ -100,6 +101,7 @@ pub fn beacon(part: &[u8]) {
     summed(part, 266, 1);
     summed(part, 269, 0);
     summed(part, 269, 2);
+    summed(part, 269, 3);
     summed(part, 270, 1);
     summed(part, 11, 255);
     changed(part, 35, 1);

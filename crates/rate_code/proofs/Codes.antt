@@ -154,7 +154,7 @@ pub record Parts (c : ℕ) : Type 0 where
   pub small : c / 4096 ≤ 12
   pub high : (c / 4096 ≡ 0) ⊎ (2048 ≤ c % 4096)
 
-parts : (c : ℕ) → codeValid c ≡ true → Parts c
+pub parts : (c : ℕ) → codeValid c ≡ true → Parts c
 unfolding codeValid
 parts c h =
     let t = and-split _ _ h in

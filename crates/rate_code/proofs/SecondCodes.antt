@@ -1,7 +1,8 @@
 -- A second-edition code fits 16 bits and is below D000, its least count is at most the count and has that code again, every code below
 -- D000 is that of its least count, and the edition is never coarser than the first. Assumes nothing.
-use mathlib.Core.Path.{_≡_, refl, sym, ap, _∙_}
-use mathlib.Core.Bool.{Bool, true, false, cond}
+use mathlib.Core.Path.{_≡_, sym, ap, _∙_}
+use mathlib.Core.Bool.{true}
+use mathlib.Core.Logic.{⊎-elim}
 use Prim.Native.Nat.{ℕ, suc, _+_, _-_, _*_, _/_, _%_, _^_, _≤_, _<_}
 use native.Mathlib.Omega.{arith}
 use native.Mathlib.Nat.{pow-succ', mul-assoc, mul-le-mul, mul-le-mul-right, mul-lt-mul-of-pos-right}
@@ -11,9 +12,9 @@ use lib.Count.{leadingZeros}
 use lib.Dec.{ltb}
 use borrow.Author.Tests.{lt-ltb, le-ltb, ltb-true, ltb-false}
 use Rattle.wire.proofs.Lists.{decide}
-use Rattle.rate_code.specs.Rate.{countLimit, leastFrom, rateCode, leastCount}
+use Rattle.rate_code.specs.Rate.{countLimit, rateCode, leastCount, codeValid}
 use Rattle.rate_code.specs.Second.{exponent, secondCode, secondLeast, secondValid}
-use Rattle.rate_code.proofs.Codes.{least-is, Bits, bits, least-cut, least-le}
+use Rattle.rate_code.proofs.Codes.{least-is, bits, least-cut, least-le, parts}
 
 -- ---- a count from 4,096 on
 
@@ -55,6 +56,16 @@ module _ (n e : ℕ) (s : Spread n e) where
   pub code-spread : secondCode n ≡ 4096 * e + n / 2 ^ (e - 1) - 4096
   unfolding secondCode
   code-spread = rw (le-ltb n 4096 many, exponent-is)
+
+  -- its least count is the count without its lowest e − 1 bits
+  pub least-spread : secondLeast (secondCode n) ≡ n / 2 ^ (e - 1) * 2 ^ (e - 1)
+  unfolding secondLeast
+  least-spread =
+      let c = code-spread in
+      let a : secondCode n / 4096 ≡ e = omega (arith, c, low, high) in
+      let b : secondCode n % 4096 + 4096 ≡ n / 2 ^ (e - 1) = omega (arith, c, low, high) in
+      let g : 4096 ≤ secondCode n = omega (arith, c, high, s .least) in
+      rw (le-ltb (secondCode n) 4096 g) (λ i. b i * 2 ^ (a i - 1))
 
 -- by the zeros above its highest bit
 pub spread : (n : ℕ) → n < countLimit → 4096 ≤ n → Spread n (20 - leadingZeros 32 n)
@@ -98,25 +109,19 @@ module _ (n : ℕ) (h : n < countLimit) where
   unfolding secondValid
   second-valid = lt-ltb _ _ second-below
 
-  -- from 4,096 on, its least count is the count without its lowest e − 1 bits
-  least-spread : (s : Spread n e) → secondLeast (secondCode n) ≡ n / 2 ^ (e - 1) * 2 ^ (e - 1)
-  unfolding secondLeast
-  least-spread s =
-      let c = code-spread n e s in
-      let a : secondCode n / 4096 ≡ e = omega (arith, c, low n e s, high n e s) in
-      let b : secondCode n % 4096 + 4096 ≡ n / 2 ^ (e - 1) = omega (arith, c, low n e s, high n e s) in
-      let g : 4096 ≤ secondCode n = omega (arith, c, high n e s, s .least) in
-      rw (le-ltb (secondCode n) 4096 g) (λ i. b i * 2 ^ (a i - 1))
-
   -- the least count of a count's code is at most the count
   pub second-le : secondLeast (secondCode n) ≤ n
   unfolding secondLeast
   second-le =
       decide (ltb n 4096)
       (λ q. let l = ltb-true n 4096 q in rw (second-low n l, lt-ltb n 4096 l) (omega arith))
-      (λ q. rw (least-spread (spread n h (ltb-false n 4096 q))) (div-mul-le-self n (2 ^ (e - 1))))
+      (λ q. rw (least-spread n e (spread n h (ltb-false n 4096 q))) (div-mul-le-self n (2 ^ (e - 1))))
 
 -- ---- a valid code
+
+pub valid-below : (c : ℕ) → secondValid c ≡ true → c < 0xD000
+unfolding secondValid
+valid-below c h = ltb-true c 0xD000 h
 
 module _ (c : ℕ) (h : c < 0xD000) where
   -- the least count of a code from 1000 hex on is in the range of the code's exponent
@@ -189,4 +194,47 @@ second-finer n h =
     let i : ℕ = 20 - leadingZeros 32 n in
     let first : leastCount (rateCode n) ≡ n / 2 ^ i * 2 ^ i =
     least-cut n h ∙ ap (λ (k : ℕ). n / 2 ^ k * 2 ^ k) (t .shifted) in
-    rw (first, halved i (s .least), least-spread n h s) (cut-finer n (2 ^ (i - 1)) (pow-pos (i - 1))))
+    rw (first, halved i (s .least), least-spread n i s) (cut-finer n (2 ^ (i - 1)) (pow-pos (i - 1))))
+
+-- a quotient of twelve bits, shifted by s, is one of thirteen bits shifted by s − 1
+module _ (q s : ℕ) (one : 1 ≤ s) (most : s ≤ 12) (from : 2048 ≤ q) (below : q < 4096) where
+  doubled : q * 2 ^ s ≡ 2 * q * 2 ^ (s - 1)
+  doubled =
+      let t : q * 2 ≡ 2 * q = omega arith in
+      ap (λ (p : ℕ). q * p) (halved s one) ∙ sym (mul-assoc q 2 (2 ^ (s - 1))) ∙ ap (λ (m : ℕ). m * 2 ^ (s - 1)) t
+
+  doubled-spread : Spread (q * 2 ^ s) s
+  doubled-spread =
+      let a : 4096 ≤ 2 * q = omega (arith, from) in
+      let b : 2 * q < 8192 = omega (arith, below) in
+      record {
+        least = one;
+        most = most;
+        from = rw doubled (mul-le-mul-right (2 ^ (s - 1)) a);
+        below = rw doubled (mul-lt-mul-of-pos-right b (pow-pos (s - 1)));
+      }
+
+  doubled-exact : secondLeast (secondCode (q * 2 ^ s)) ≡ q * 2 ^ s
+  doubled-exact =
+      least-spread (q * 2 ^ s) s doubled-spread
+      ∙ ap (λ (n : ℕ). n / 2 ^ (s - 1) * 2 ^ (s - 1)) doubled
+      ∙ ap (λ (n : ℕ). n * 2 ^ (s - 1)) (mul-div-cancel (2 * q) (pow-pos (s - 1)))
+      ∙ sym doubled
+
+-- every least count of the first edition is one of the second
+pub first-exact : (c : ℕ) → codeValid c ≡ true → secondLeast (secondCode (leastCount c)) ≡ leastCount c
+unfolding leastCount
+first-exact c h =
+    let t = parts c h in
+    let q : ℕ = c % 4096 in
+    let s : ℕ = c / 4096 in
+    let l : q < 4096 = omega arith in
+    decide (ltb 0 s)
+    (λ p. ⊎-elim
+    (λ (z : s ≡ 0). absurd (omega (arith, z, ltb-true 0 s p)))
+    (λ (g : 2048 ≤ q). doubled-exact q s (ltb-true 0 s p) (t .small) g l)
+    (t .high))
+    (λ p.
+    let z : s ≡ 0 = omega (arith, ltb-false 0 s p) in
+    let e : q * 2 ^ s ≡ q = ap (λ (k : ℕ). q * 2 ^ k) z ∙ omega arith in
+    rw (e, second-low q l) (least-low q l))

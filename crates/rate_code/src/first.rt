@@ -2,6 +2,7 @@
 ghost use mathlib.Core.Path.{_≡_};
 ghost use mathlib.Core.Bool.{true};
 ghost use Prim.Native.Nat.{_<_};
+ghost use lib.Dec.{eqb};
 ghost use Rattle.rate_code.specs.Rate.{countLimit, rateCode, leastCount, codeValid};
 
 // The code of a count. A count from 4,096 on has at least 13 bits: the shift leaves its upper twelve.
@@ -23,6 +24,14 @@ pub fn least_count(c: u16) -> u32
 {
     let q = (c % 4096) as u32;
     q << (c / 4096)
+}
+
+// Whether the count is the least of its code.
+pub fn exact(n: u32) -> bool
+    requires { ⌜ n < countLimit ⌝ }
+    ensures { λ r. ⌜ r ≡ eqb (leastCount (rateCode n)) n ⌝ }
+{
+    least_count(encode(n)) == n
 }
 
 // Whether the code is one that a count can have.

@@ -9,10 +9,6 @@ use Rattle.ground.specs.GatherTheorems.{Gatherer, given, freshGatherer}
 use Rattle.replay_calls.specs.Ground.{groundOut}
 
 module _ (kind : ℕ) (g after : Gatherer) (body : List ℕ) where
-  pub packet-leaves : kind ≡ 6 → after ≡ g → after ≡ groundOut kind g body
-  unfolding groundOut
-  packet-leaves k e = rw k e
-
   pub gather-leaves : kind ≡ 8 → after ≡ given g body → after ≡ groundOut kind g body
   unfolding groundOut
   gather-leaves k e = rw k e

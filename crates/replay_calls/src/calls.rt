@@ -118,7 +118,7 @@ fn listing(state: State, tables: &[u8], body: &[u8], text: &mut [u8], at: &mut u
     let time = wire::read::u32_at(body, 2);
     let mut out = [0u8; packet::layout::PACKET_BYTES];
     let number = processor::listing::listing(state, i, time, tables, &mut out);
-    answers::listing::print_listing(text, at, number, &out);
+    answers::listing::print_written(text, at, b"listing", number, &out);
 }
 
 // One record, of which those of the ground change nothing aboard.

@@ -8,6 +8,8 @@ use ground::gather::Gathered;
 use replay_records::records::GATHER;
 use replay_records::records::GATHERED;
 use replay_records::records::PACKET;
+use replay_records::records::TO_FIRST;
+use replay_records::records::TO_SECOND;
 
 // Bytes given to the gatherer.
 fn gather(
@@ -37,7 +39,21 @@ fn hand_over(gathered: Gathered, table: &mut [u8], text: &mut [u8], at: &mut usi
     ground::gather::none()
 }
 
-// One record, of which those of the calls aboard change nothing on the ground.
+// Bytes converted to the second edition.
+fn to_second(body: &[u8], text: &mut [u8], at: &mut usize) {
+    let mut out = [0u8; packet::layout::PACKET_BYTES];
+    let number = ground::convert::to_second(body, &mut out);
+    answers::listing::print_written(text, at, b"second", number, &out);
+}
+
+// And to the first.
+fn to_first(body: &[u8], text: &mut [u8], at: &mut usize) {
+    let mut out = [0u8; packet::layout::PACKET_BYTES];
+    let number = ground::convert::to_first(body, &mut out);
+    answers::listing::print_written(text, at, b"first", number, &out);
+}
+
+// One record, of which those of the calls aboard, and what is read or converted, change nothing that is gathered.
 pub fn carry_out(
     kind: u8,
     gathered: Gathered,
@@ -56,6 +72,14 @@ pub fn carry_out(
         }
         GATHER => gather(gathered, table, body, text, at),
         GATHERED => hand_over(gathered, table, text, at),
+        TO_SECOND => {
+            to_second(body, text, at);
+            gathered
+        }
+        TO_FIRST => {
+            to_first(body, text, at);
+            gathered
+        }
         _ => gathered,
     }
 }

@@ -1,4 +1,4 @@
--- Records of replay: as minute's, but lines, packages, packets and bytes to gather have their length in front. Assumes nothing.
+-- Records of replay: as minute's, but lines, packages, and bytes to read, gather or convert have their length in front. Assumes nothing.
 use mathlib.Core.Bool.{Bool, true, _||_, cond}
 use mathlib.Core.List.{List}
 use mathlib.Core.Path.{_≡_}
@@ -11,7 +11,7 @@ use Rattle.stream.specs.declared.record.Next.{Next}
 use Rattle.stream.specs.declared.record.Next.the-variants.{End, Bad, Record}
 
 abbrev pub isCounted : ℕ → Bool
-isCounted kind = eqb kind 3 || eqb kind 5 || eqb kind 6 || eqb kind 8
+isCounted kind = eqb kind 3 || eqb kind 5 || eqb kind 6 || eqb kind 8 || eqb kind 10 || eqb kind 11
 
 -- a body of n bytes has the length of its kind: 7 a listing (6, i and time), 9 what was gathered (none), and minute's
 abbrev pub Long : (kind n : ℕ) → Type 0

@@ -20,6 +20,10 @@ pub const GATHER: u8 = 8;
 
 pub const GATHERED: u8 = 9;
 
+pub const TO_SECOND: u8 = 10;
+
+pub const TO_FIRST: u8 = 11;
+
 // A listing's body: which packet, and the time.
 const LISTING_BYTES: usize = 6;
 
@@ -27,7 +31,12 @@ const LISTING_BYTES: usize = 6;
 fn is_counted(kind: u8) -> bool
     ensures { λ r. ⌜ r ≡ isCounted kind ⌝ }
 {
-    (kind == stream::record::LINE) | (kind == PACKAGE) | (kind == PACKET) | (kind == GATHER)
+    (kind == stream::record::LINE)
+        | (kind == PACKAGE)
+        | (kind == PACKET)
+        | (kind == GATHER)
+        | (kind == TO_SECOND)
+        | (kind == TO_FIRST)
 }
 
 // The length of a body that has none in front; 0 for no kind, and for the kind that has no body.

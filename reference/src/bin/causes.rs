@@ -3,8 +3,10 @@
 use std::collections::BTreeMap;
 use std::io::{stdin, BufRead, Result};
 
-const KINDS: [&str; 9] =
-    ["event", "reading", "line", "close", "package", "packet", "listing", "gather", "refused"];
+const KINDS: [&str; 11] = [
+    "event", "reading", "line", "close", "package", "packet", "listing", "gather", "second", "first",
+    "refused",
+];
 
 fn main() -> Result<()> {
     let mut answers: BTreeMap<u8, [u64; KINDS.len()]> = BTreeMap::new();

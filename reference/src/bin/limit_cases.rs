@@ -1,13 +1,14 @@
 //! Gives the processor calls states at each limit and one beyond, buffers of the right length
-//! and one off, and slots of odd boxes, and the gatherer buffers one off; asks and commits over
-//! staged bytes, good and bad: one line a case, its name and the numbers answered.
+//! and one off, and slots of odd boxes, and the gatherer and the converters buffers one off; asks
+//! and commits over staged bytes, good and bad: one line a case, its name and the numbers answered.
 
 use reference::causes::Number;
 use reference::commands::{Settings, ECHO_BYTES};
+use reference::convert::{to_first, to_second};
 use reference::gatherer::Gatherer;
 use reference::limits::*;
 use reference::loads::{Addresses, MARK_BYTES, STAGING_BYTES};
-use reference::packets::{OUTPUT_BYTES, PACKET_BYTES};
+use reference::packets::*;
 use reference::samples::{Samples, SLOTS};
 use reference::sorting::{Counts, Event, VALID_STOP};
 use reference::tables::TABLE_BYTES;
@@ -393,6 +394,22 @@ fn asks_in_order() {
     }
 }
 
+/// Both converters with a packet to convert and with none, and `out` of these lengths.
+fn conversions() {
+    type Converter = fn(&[u8], &mut [u8]) -> Number;
+    let converters: [(&str, Converter, u8); 2] =
+        [("second", to_second, FIRST_MARK), ("first", to_first, CONVERTED_MARK)];
+    for (name, converter, mark) in converters {
+        let mut packet = [0; PACKET_BYTES];
+        write(&mut packet, RATE, 0, 0, |packet| packet[MARK_AT] = mark);
+        for length in [0, 271, 272, 273] {
+            let mut out = vec![0; length];
+            println!("{name}-out-{length} {}", converter(&packet, &mut out));
+            println!("{name}-out-{length}-of-no-byte {}", converter(&[], &mut out));
+        }
+    }
+}
+
 fn main() {
     event_counts();
     slot_uses();
@@ -405,4 +422,5 @@ fn main() {
     slots();
     asks();
     asks_in_order();
+    conversions();
 }

@@ -1,10 +1,13 @@
-//! Writes `tables.bin` and `stdin`, a stream for `replay` or `minute`, into a folder.
+//! Writes `tables.bin` and `stdin`, a stream for `replay` or `minute`, into a folder, or an archive
+//! for `convert`.
 
-use std::fs;
+use std::fs::{self, File};
+use std::io::{self, BufWriter, Write};
 use std::path::Path;
 use std::process::exit;
 
 use reference::calls::Form;
+use reference::generate::archive::write_archive;
 use reference::generate::{stories, Stream};
 
 const USAGE: &str = "\
@@ -15,21 +18,32 @@ streams SEED CALLS DIR [options]   a stream of CALLS calls in DIR/stdin, its tab
     --unclosed N     the same without the closes
     --frames N       before them N intervals in which nothing happens
     --wrong-tables   tables.bin is of another length
-streams --example DIR              a minute with protons, helium, oxygen and iron, for `minute` or `replay`";
+streams --example DIR              a minute with protons, helium, oxygen and iron, for `minute` or `replay`
+streams --archive SEED N DIR       N packets of the first edition in DIR/archive, for `convert`
+    --damaged        some of them damaged, foreign or of the second edition, the last one cut off";
 
 fn main() {
     let arguments: Vec<String> = std::env::args().skip(1).collect();
-    if write_stream(&arguments).is_none() {
+    if write_files(&arguments).is_none() {
         eprintln!("{USAGE}");
         exit(2);
     }
 }
 
-fn write_stream(arguments: &[String]) -> Option<()> {
-    if let [option, dir] = arguments {
-        let example = stories::example();
-        return (option == "--example").then(|| save(dir, &example.tables, &example.bytes));
+/// None, and nothing written, if the arguments are wrong.
+fn write_files(arguments: &[String]) -> Option<()> {
+    match arguments {
+        [option, dir] if option == "--example" => {
+            let example = stories::example();
+            save(dir, &example.tables, &example.bytes);
+            Some(())
+        }
+        [option, rest @ ..] if option == "--archive" => archive(rest),
+        _ => stream(arguments),
     }
+}
+
+fn stream(arguments: &[String]) -> Option<()> {
     let [seed, calls, dir, options @ ..] = arguments else {
         return None;
     };
@@ -56,12 +70,35 @@ fn write_stream(arguments: &[String]) -> Option<()> {
     Some(())
 }
 
+fn archive(arguments: &[String]) -> Option<()> {
+    let [seed, packets, dir, options @ ..] = arguments else {
+        return None;
+    };
+    let damaged = match options {
+        [] => false,
+        [option] if option == "--damaged" => true,
+        _ => return None,
+    };
+    let (seed, packets) = (seed.parse().ok()?, packets.parse().ok()?);
+    saved(dir, |dir| {
+        let mut file = BufWriter::with_capacity(1 << 16, File::create(dir.join("archive"))?);
+        write_archive(seed, packets, damaged, &mut file)?;
+        file.flush()
+    });
+    Some(())
+}
+
 fn save(dir: &str, tables: &[u8], stream: &[u8]) {
+    saved(dir, |dir| {
+        fs::write(dir.join("tables.bin"), tables)?;
+        fs::write(dir.join("stdin"), stream)
+    });
+}
+
+/// Makes the folder and writes its files.
+fn saved(dir: &str, files: impl FnOnce(&Path) -> io::Result<()>) {
     let dir = Path::new(dir);
-    let written = fs::create_dir_all(dir)
-        .and_then(|()| fs::write(dir.join("tables.bin"), tables))
-        .and_then(|()| fs::write(dir.join("stdin"), stream));
-    if let Err(error) = written {
+    if let Err(error) = fs::create_dir_all(dir).and_then(|()| files(dir)) {
         eprintln!("{}: {error}", dir.display());
         exit(1);
     }

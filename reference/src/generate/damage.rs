@@ -1,23 +1,18 @@
-//! Packets for the reader and the gatherer: damaged ones, changed ones that are still lawful, and
-//! those of the archive, with the first edition's codes.
-
-use std::ops::Range;
+//! Packets for the reader, the converters and the gatherer: damaged ones, and changed ones that are
+//! still lawful.
 
 use crate::codes::Edition;
+use crate::generate::rates::*;
 use crate::generate::Random;
 use crate::listing::*;
 use crate::packets::*;
 
-type Bytes = [u8; PACKET_BYTES];
-
-/// Codes that some count has in both editions, those that none has in the first, and in the second.
-const CODES: [u16; 10] = [0, 1, 0x07FF, 0x0800, 0x0FFF, 0x1800, 0x1FFF, 0x2800, 0xC800, 0xCFFF];
+/// Codes that no count has in the first edition, and in the second.
 const WRONG_FIRST: [u16; 12] =
     [0x1000, 0x1001, 0x17FF, 0x2000, 0x27FF, 0xC000, 0xC7FF, 0xD000, 0xD7FF, 0xD800, 0xF800, 0xFFFF];
 const WRONG_SECOND: [u16; 5] = [0xD000, 0xD001, 0xDFFF, 0xE000, 0xFFFF];
-/// The edges of both, to stand under every mark.
-const EDGE_CODES: [u16; 7] = [0x0FFF, 0x1000, 0x17FF, 0x1800, 0xCFFF, 0xD000, 0xFFFF];
 const MARKS: [u8; 5] = [0, 1, 2, 3, 255];
+const WRONG_MARKS: [u8; 5] = [3, 4, 16, 128, 255];
 
 /// The packet changed somehow: most of these are refused, by 11 to 14.
 pub fn changed(random: &mut Random, mut packet: Bytes) -> Vec<u8> {
@@ -27,8 +22,7 @@ pub fn changed(random: &mut Random, mut packet: Bytes) -> Vec<u8> {
     match random.below(14) {
         0 => return wrong_length(random, packet),
         1 => {
-            let at = random.below(PACKET_BYTES);
-            packet[at] ^= random.between(1, 255) as u8;
+            byte_off(random, &mut packet);
             return packet.to_vec();
         }
         2 | 3 => header_fault(random, &mut packet),
@@ -38,8 +32,7 @@ pub fn changed(random: &mut Random, mut packet: Bytes) -> Vec<u8> {
             if random.percent(50) {
                 header_fault(random, &mut packet);
             }
-            let error = random.between(1, 255) as u8;
-            packet[271] = packet_sum(&packet).wrapping_add(error);
+            wrong_sum(random, &mut packet);
             return packet.to_vec();
         }
         5 | 6 => lawful_change(random, &mut packet),
@@ -48,6 +41,49 @@ pub fn changed(random: &mut Random, mut packet: Bytes) -> Vec<u8> {
     }
     packet[271] = packet_sum(&packet);
     packet.to_vec()
+}
+
+/// One fault of the plainest kinds.
+pub fn one_fault(random: &mut Random, mut packet: Bytes) -> Vec<u8> {
+    match random.below(5) {
+        0 => byte_off(random, &mut packet),
+        1 => wrong_sum(random, &mut packet),
+        2 => wrong_mark(random, &mut packet),
+        3 => wrong_value(random, &mut packet),
+        _ => {
+            let mut packet = packet.to_vec();
+            packet.resize(random.pick(&[0, 271, 273]), 0);
+            return packet;
+        }
+    }
+    packet.to_vec()
+}
+
+/// Some byte, under the sum of before.
+fn byte_off(random: &mut Random, packet: &mut Bytes) {
+    let at = random.below(PACKET_BYTES);
+    packet[at] ^= random.between(1, 255) as u8;
+}
+
+pub fn wrong_sum(random: &mut Random, packet: &mut Bytes) {
+    let error = random.between(1, 255) as u8;
+    packet[271] = packet_sum(packet).wrapping_add(error);
+}
+
+/// A mark that no edition has, or a p that no sample packet has; the sum is right.
+pub fn wrong_mark(random: &mut Random, packet: &mut Bytes) {
+    packet[MARK_AT] = random.pick(if codes_of(packet).is_empty() { &[11, 255] } else { &WRONG_MARKS });
+    packet[271] = packet_sum(packet);
+}
+
+/// A code that no count has, or a record of a box that no sample has; the sum is right.
+pub fn wrong_value(random: &mut Random, packet: &mut Bytes) {
+    if codes_of(packet).is_empty() {
+        wrong_record(random, packet);
+    } else {
+        wrong_code(random, packet);
+    }
+    packet[271] = packet_sum(packet);
 }
 
 fn wrong_length(random: &mut Random, packet: Bytes) -> Vec<u8> {
@@ -95,7 +131,7 @@ fn rate_fault(random: &mut Random, packet: &mut Bytes, some: u8) {
 /// A mark that no edition has, or a byte behind it.
 fn wrong_end(random: &mut Random, packet: &mut Bytes, some: u8) {
     if random.percent(50) {
-        packet[MARK_AT] = random.pick(&[2, 3, 16, 128, 255]);
+        packet[MARK_AT] = random.pick(&WRONG_MARKS);
     } else {
         packet[270] = some;
     }
@@ -115,12 +151,14 @@ fn sample_fault(random: &mut Random, packet: &mut Bytes, some: u8) {
         0 => packet[269] = packet[269].wrapping_add(some),
         1 => put(packet, 0, 1 << 11 | random.between(606, 616) as u16),
         2 => packet[270] = some,
-        _ => {
-            let any = random.between(117, 127) as u32;
-            let b = random.pick(&[0, 1, 5, 117, 127, any]);
-            put_record(random, packet, b);
-        }
+        _ => wrong_record(random, packet),
     }
+}
+
+fn wrong_record(random: &mut Random, packet: &mut Bytes) {
+    let any = random.between(117, 127) as u32;
+    let b = random.pick(&[0, 1, 5, 117, 127, any]);
+    put_record(random, packet, b);
 }
 
 /// An address that is none of the 250, or a byte that must be zero, or both.
@@ -162,9 +200,9 @@ fn lawful_change(random: &mut Random, packet: &mut Bytes) {
             packet[261] = random.byte() & 0xF0;
             put(packet, 262, if random.percent(50) { 704 } else { random.between(0, 704) as u16 });
             packet[264..267].copy_from_slice(&random.bits().to_be_bytes()[..3]);
-            (0..random.below(30)).for_each(|_| lawful_code(random, packet));
+            (0..random.below(30)).for_each(|_| other_code(random, packet));
         }
-        BEACON => (0..random.below(5)).for_each(|_| lawful_code(random, packet)),
+        BEACON => (0..random.below(5)).for_each(|_| other_code(random, packet)),
         LISTING => other_words(random, packet),
         _ => {
             for _ in 0..random.below(30) {
@@ -201,39 +239,7 @@ fn other_mark(random: &mut Random, packet: &mut Bytes) {
         return lawful_change(random, packet);
     }
     packet[MARK_AT] = random.pick(&MARKS);
-    for _ in 0..random.below(3) {
-        let place = code_place(random, packet);
-        put(packet, place, random.pick(&EDGE_CODES));
-    }
-}
-
-/// A rate or beacon packet with the first edition's codes and mark, as the archive has them.
-pub fn into_first(packet: &mut Bytes) {
-    let codes = codes_of(packet);
-    if codes.is_empty() {
-        return;
-    }
-    for two in packet[codes].chunks_exact_mut(2) {
-        let code = u16::from_be_bytes([two[0], two[1]]);
-        let least = Edition::Second.least_count(code).expect("a packet as written");
-        two.copy_from_slice(&Edition::First.code(least).to_be_bytes());
-    }
-    packet[MARK_AT] = FIRST_MARK;
-}
-
-/// The bytes of a packet that are codes of rates.
-fn codes_of(packet: &Bytes) -> Range<usize> {
-    match number(packet) {
-        RATE => RATE_CODES,
-        BEACON => BEACON_CODES,
-        _ => 0..0,
-    }
-}
-
-/// Where some rate of a rate or beacon packet has its code.
-fn code_place(random: &mut Random, packet: &Bytes) -> usize {
-    let codes = codes_of(packet);
-    codes.start + 2 * random.below(codes.len() / 2)
+    put_edges(random, packet);
 }
 
 fn wrong_code(random: &mut Random, packet: &mut Bytes) {
@@ -247,14 +253,9 @@ fn wrong_code(random: &mut Random, packet: &mut Bytes) {
     put(packet, place, wrong);
 }
 
-fn lawful_code(random: &mut Random, packet: &mut Bytes) {
-    let s = random.between(0, 12) as u16;
-    let any = match edition(packet[MARK_AT]) {
-        Some(Edition::First) => 4_096 * s + random.between(2_048, 4_095) as u16,
-        _ => 4_096 * s + random.below(4_096) as u16,
-    };
+fn other_code(random: &mut Random, packet: &mut Bytes) {
     let place = code_place(random, packet);
-    put(packet, place, if random.percent(70) { any } else { random.pick(&CODES) });
+    put(packet, place, lawful_code(random, packet[MARK_AT]));
 }
 
 /// A record of box b, not zero, in some place.
@@ -265,14 +266,6 @@ fn put_record(random: &mut Random, packet: &mut Bytes, b: u32) {
     packet[place..place + 4].copy_from_slice(&record.to_be_bytes());
 }
 
-fn number(packet: &Bytes) -> u16 {
-    u16::from_be_bytes([packet[0], packet[1]]) % 2_048
-}
-
 fn put_address(packet: &mut Bytes, address: usize) {
     packet[16..19].copy_from_slice(&(address as u32).to_be_bytes()[1..]);
-}
-
-fn put(packet: &mut Bytes, at: usize, value: u16) {
-    packet[at..at + 2].copy_from_slice(&value.to_be_bytes());
 }

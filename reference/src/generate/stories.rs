@@ -25,7 +25,7 @@ impl Stream {
     }
 
     fn story(&mut self) {
-        match self.random.below(116) {
+        match self.random.below(128) {
             0..=29 => self.events_up_to(30),
             30..=36 => self.readings_up_to(4),
             37..=51 => self.lines_up_to(6),
@@ -43,7 +43,8 @@ impl Stream {
             100..=103 => self.listings_up_to(8),
             104..=108 => self.gather_some(),
             109..=114 => self.overlapping_packages(),
-            _ => self.gather_all(),
+            115 => self.gather_all(),
+            _ => self.conversions(),
         }
     }
 
@@ -256,12 +257,12 @@ impl Stream {
     /// An unknown kind or a body that is too short.
     fn bad_record(&mut self) {
         if self.random.percent(30) {
-            let kinds: &[u8] =
-                if self.form == Form::Minute { &[0, 5, 6, 7, 8, 9, 255] } else { &[0, 10, 255] };
+            let minute: &[u8] = &[0, 5, 6, 7, 8, 9, 10, 11, 255];
+            let kinds = if self.form == Form::Minute { minute } else { &[0, 12, 255] };
             self.bytes.push(self.random.pick(kinds));
             return;
         }
-        let call = match self.random.below(8) {
+        let call = match self.random.below(10) {
             0 => Call::Event(self.any_event()),
             1 => Call::Reading([1; 8]),
             2 => Call::Close(60),
@@ -269,6 +270,8 @@ impl Stream {
             4 => Call::Packet(self.written(0).to_vec()),
             5 => Call::Listing(0, 60),
             6 => Call::Gather(self.station.listed.to_vec()),
+            7 => Call::ToSecond(self.station.converted.to_vec()),
+            8 => Call::ToFirst(self.station.converted.to_vec()),
             _ => Call::Line(b"hv 1".to_vec()),
         };
         let from = self.bytes.len();

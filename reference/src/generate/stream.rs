@@ -3,7 +3,7 @@
 
 use crate::calls::{self, Call, Form};
 use crate::generate::{flight, wild, Random};
-use crate::packets::PACKET_BYTES;
+use crate::packets::{Bytes, PACKET_BYTES};
 use crate::sorting::Event;
 use crate::station::Station;
 use crate::tables::{word, KHI, KLO, KTOF};
@@ -73,6 +73,8 @@ impl Stream {
             Ok(Some(Call::Listing(i, time))) => drop(self.station.listing(i, time)),
             Ok(Some(Call::Gather(packet))) => drop(self.station.gather(&packet)),
             Ok(Some(Call::Gathered)) => self.station.gather_anew(),
+            Ok(Some(Call::ToSecond(packet))) => drop(self.station.to_second(&packet)),
+            Ok(Some(Call::ToFirst(packet))) => drop(self.station.to_first(&packet)),
             Ok(None) | Err(_) => unreachable!("a record just written"),
         }
     }
@@ -103,7 +105,7 @@ impl Stream {
     }
 
     /// Packet k of the last close.
-    pub fn written(&self, k: usize) -> [u8; PACKET_BYTES] {
+    pub fn written(&self, k: usize) -> Bytes {
         self.station.output[PACKET_BYTES * k..][..PACKET_BYTES].try_into().unwrap()
     }
 }

@@ -1,12 +1,15 @@
 -- Each arm of `carry_out` leaves what is gathered as the definition says for its kind.
 use mathlib.Core.Path.{refl}
-use Rattle.replay_calls.proofs.GroundLaws.{packet-leaves, gather-leaves, hand-over-leaves, other-leaves}
+use native.Mathlib.Omega.{arith}
+use Rattle.replay_calls.proofs.GroundLaws.{gather-leaves, hand-over-leaves, other-leaves}
 use borrow.Author.Needs.{needs}
 use Rattle.replay_calls.proofs.ground_calls.carry_out.Statement.{statement}
 use Rattle.replay_calls.proofs.ground_calls.carry_out.Tie as tie
 
 returns : tie.Need-returns
-returns c = packet-leaves _ _ _ _ (c .before .before .before .before .before .match .keys1) refl
+returns c =
+    let k = c .before .before .before .before .before .match .keys1 in
+    other-leaves _ _ _ _ (λ e. omega (arith, k, e)) (λ e. omega (arith, k, e)) refl
 
 returns-2 : tie.Need-returns-2
 returns-2 c =
@@ -19,12 +22,24 @@ returns-3 c =
     hand-over-leaves _ _ _ _ (x .before .before .before .before .match .keys3) (x .hand-over .ensures)
 
 returns-4 : tie.Need-returns-4
-returns-4 c = let r = c .match .rest in other-leaves _ _ _ _ (r .0 .1) (r .1) refl
+returns-4 c =
+    let k = c .before .before .before .before .before .match .keys4 in
+    other-leaves _ _ _ _ (λ e. omega (arith, k, e)) (λ e. omega (arith, k, e)) refl
+
+returns-5 : tie.Need-returns-5
+returns-5 c =
+    let k = c .before .before .before .before .before .match .keys5 in
+    other-leaves _ _ _ _ (λ e. omega (arith, k, e)) (λ e. omega (arith, k, e)) refl
+
+returns-6 : tie.Need-returns-6
+returns-6 c = let r = c .match .rest in other-leaves _ _ _ _ (r .0 .0 .0 .1) (r .0 .0 .1) refl
 
 pub carry-out-spec : {M : Type 1} → statement M
 carry-out-spec =
     tie.close
     (tie.spec
+    (λ c κs. search needs)
+    (λ c κs. search needs)
     (λ c κs. search needs)
     (λ c κs. search needs)
     (λ c κs. search needs)
@@ -36,4 +51,8 @@ carry-out-spec =
     (λ c. search needs)
     (λ c. search needs)
     returns-3
-    returns-4)
+    (λ c. search needs)
+    returns-4
+    (λ c. search needs)
+    returns-5
+    returns-6)

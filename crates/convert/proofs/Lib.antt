@@ -1,0 +1,2 @@
+-- What the proofs of convert share.
+pub mod BlockLaws

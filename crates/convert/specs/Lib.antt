@@ -1,0 +1,2 @@
+-- What the contracts of convert cite.
+pub mod Block
