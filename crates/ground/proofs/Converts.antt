@@ -1,19 +1,18 @@
 -- The number of a conversion, and what the two calls do one after the other. Assumes nothing.
 use mathlib.Core.Path.{_≡_, refl, sym, ap, _∙_}
-use mathlib.Core.Bool.{Bool, true, false, not, cond, _&&_, false≢true}
+use mathlib.Core.Bool.{Bool, true, false, not, cond, false≢true}
 use mathlib.Core.List.{List, [], _∷_, _++_}
-use Prim.Native.Nat.{ℕ, zero, suc, _+_, _*_, _≤_, _<_}
+use Prim.Native.Nat.{ℕ, _+_, _*_, _≤_, _<_}
 use native.Mathlib.Omega.{arith}
 use lib.Dec.{eqb}
 use lib.ListN.{length, take, set}
-use borrow.Author.Tests.{eq-eqb, ne-eqb, eqb-true}
+use borrow.Author.Tests.{eq-eqb, ne-eqb, eqb-true, not-true}
 use Rattle.causes.specs.Causes.{carriedOut, bufferOrState, bodyFault, noFirstCode}
 use Rattle.causes.specs.Checks.{Check, numberBy, Passed}
 use Rattle.causes.proofs.CheckLaws.{all-passed, passed-first, number-before, number-behind}
 use Rattle.wire.specs.Lists.{EachBelow}
 use Rattle.wire.proofs.Lists.{decide, and-left, and-right}
-use Rattle.wire.specs.Pieces.{each}
-use Rattle.wire.proofs.Pieces.{each-at, each-all, each-start}
+use Rattle.wire.proofs.Pieces.{each-at, each-all, each-start, each-some, each-fails}
 use Rattle.rate_code.specs.Rate.{countLimit, rateCode}
 use Rattle.rate_code.specs.Editions.{firstMark, convertedMark, isFirst, exactBy}
 use Rattle.rate_code.proofs.Codes.{code-valid}
@@ -124,13 +123,9 @@ unfolding convertible
 other-edition wanted xs h = other-by (isFirst wanted) (isFirst (markOf xs)) (and-right (not (eqb (rateCountOf xs) 0)) _ h)
 
 -- and has rates
-has-by : (b : Bool) → not b ≡ true → b ≡ false
-has-by true h = absurd (false≢true h)
-has-by false h = refl
-
 has-rates : (wanted : ℕ) (xs : List ℕ) → convertible wanted xs ≡ true → eqb (rateCountOf xs) 0 ≡ false
 unfolding convertible
-has-rates wanted xs h = has-by _ (and-left _ _ h)
+has-rates wanted xs h = not-true _ (and-left _ _ h)
 
 -- to the second edition no rate loses a bit
 pub exact-there : (wanted n : ℕ) (xs : List ℕ) → isFirst wanted ≡ false → isFirst (markOf xs) ≡ true → codesGood n xs ≡ true
@@ -313,25 +308,6 @@ none-inexact n h l =
 inexact-none : (n : ℕ) → exactBy firstMark n ≡ false → NoFirst n
 inexact-none n q c h e = false≢true (sym q ∙ ap (exactBy firstMark) (sym e) ∙ own-exact firstMark firstMark c refl h)
 
--- where not each passes, some one fails
-some-fails : (n : ℕ) (p : ℕ → Bool) → each n p ≡ false → (i : ℕ) × (i < n) × (p i ≡ false)
-unfolding each
-some-fails zero p e = absurd (false≢true (sym e))
-some-fails (suc n) p e =
-    decide (p n)
-    (λ q.
-    let r = some-fails n p (sym (and-with (each n p) (p n) q) ∙ e) in
-    (r .0, omega (arith, r .1), r .2))
-    (λ q. (n, omega arith, q))
-  where
-    and-with : (x y : Bool) → y ≡ true → (x && y) ≡ x
-    and-with true y q = q
-    and-with false y q = refl
-
--- where some one fails, not each passes
-fails : (n : ℕ) (p : ℕ → Bool) (i : ℕ) → i < n → p i ≡ false → each n p ≡ false
-fails n p i l f = decide (each n p) (λ q. absurd (false≢true (sym f ∙ each-at p n i l q))) (λ q. q)
-
 rate-below : (xs : List ℕ) (n i : ℕ) → codesGood n xs ≡ true → i < n → rateAt xs i < countLimit
 unfolding codesGood
 rate-below xs n i g l = by-below (markOf xs) (codeAt xs i) (each-at _ n i l g)
@@ -343,12 +319,12 @@ seventeen-when xs out l acc right =
     let good = rates-good xs acc in (
       λ e.
           let t = seventeen firstMark (length out) xs (sym (number-is firstMark xs out) ∙ e) in
-          let s = some-fails n (λ i. exactBy firstMark (rateAt xs i)) (t .inexact) in
+          let s = each-some (λ i. exactBy firstMark (rateAt xs i)) n (t .inexact) in
           (s .0, s .1, inexact-none (rateAt xs (s .0)) (s .2)),
       λ s.
           let i = s .0 in
           let f = none-inexact (rateAt xs i) (s .2) (rate-below xs n i good (s .1)) in
-          let t : ratesExact firstMark n xs ≡ false = fails n (λ j. exactBy firstMark (rateAt xs j)) i (s .1) f in
+          let t : ratesExact firstMark n xs ≡ false = each-fails (λ j. exactBy firstMark (rateAt xs j)) n i (s .1) f in
           number-is firstMark xs out ∙ number-accepted firstMark (length out) xs l acc ∙ simp (right, t),
     )
 

@@ -10,6 +10,7 @@ ghost use Rattle.packet.specs.Packet.{packetBytes};
 ghost use Rattle.state.specs.Interval.{intervalWithin};
 ghost use Rattle.output.specs.Output.{samplePackets, outBytes, samplesOf, packetsOf};
 use packet::layout::PACKET_BYTES;
+use packet::layout::RECORDS;
 use packet::stamp::stamp_of;
 use rate_code::editions::SECOND_MARK;
 use settings::Settings;
@@ -18,10 +19,8 @@ use state::interval::Interval;
 // The length of the output: thirteen packets.
 pub const OUT_BYTES: usize = 13 * PACKET_BYTES;
 
-// Eleven sample packets of 64 slots each stand between the rate packet and the beacon packet.
+// Eleven sample packets, a record for each slot, stand between the rate packet and the beacon packet.
 const SAMPLE_PACKETS: u8 = 11;
-
-const PACKET_SLOTS: usize = 64;
 
 // The beacon packet's part, the last of thirteen.
 const BEACON_PART: usize = 12;
@@ -36,8 +35,8 @@ fn write_samples(out: &mut [u8], frame: u16, time: u32, slots: &[u32])
         let k = p as usize + 1;
         let a = PACKET_BYTES * k;
         let e = PACKET_BYTES * (k + 1);
-        let b = PACKET_SLOTS * (p as usize);
-        let f = b + PACKET_SLOTS;
+        let b = RECORDS * (p as usize);
+        let f = b + RECORDS;
         packet::write::write_samples(&mut out[a..e], stamp_of(frame, time, p), &slots[b..f]);
         p += 1;
     }

@@ -17,7 +17,7 @@ use Rattle.sample_record.specs.Record.{recordGood}
 use Rattle.sort.specs.declared.event.Event.{Event}
 use Rattle.sort.specs.Event.{inRange}
 use Rattle.load.specs.Marks.{marksBytes, noneBad, stagedSum}
-use Rattle.load.specs.Staging.{stagingBytes, formed, fits, placeable, receivedSum, computedSum}
+use Rattle.load.specs.Staging.{stagingBytes, formed, fits, placeable, receivedSum, computedSum, packageChecks}
 use Rattle.echo.specs.Echo.{echoBytes}
 use Rattle.command.specs.Grammar.{bytesOk, lineOf}
 use Rattle.orders.specs.Orders.{loadWaits, commandsFull}
@@ -132,6 +132,34 @@ line-short line h = leb-true _ _ (and-left _ _ h)
 
 -- ---- a package
 
+-- what a package that is staged has passed, whatever its first two tests are; and its number tells whether its sum is right
+pub record Staged (sound idle : Bool) (p : List ℕ) (next n : ℕ) : Type 0 where
+  pub is-sound : sound ≡ true
+  pub is-idle : idle ≡ true
+  pub is-formed : formed p ≡ true
+  pub is-fitting : fits p next ≡ true
+  pub number-tells : eqb n cause.packageSum ≡ not (eqb (receivedSum p) (computedSum p))
+
+pub staged : (sound idle : Bool) (p : List ℕ) (next : ℕ)
+    → let n = numberBy ((sound, cause.bufferOrState) ∷ (idle, cause.loadWaits) ∷ packageChecks p next) in
+    isStaged n ≡ true → Staged sound idle p next n
+staged sound idle p next h =
+    let first : List Check =
+    (sound, cause.bufferOrState) ∷ (idle, cause.loadWaits) ∷ (formed p, cause.packageForm) ∷ (fits p next, cause.pastStaging) ∷ [] in
+    let right : Bool = eqb (receivedSum p) (computedSum p) in
+    let k = passed-first isStaged first ((right, cause.packageSum) ∷ []) refl h in
+    record {
+      is-sound = k .0;
+      is-idle = k .1 .0;
+      is-formed = k .1 .1 .0;
+      is-fitting = k .1 .1 .1 .0;
+      number-tells = rw (k .0, k .1 .0, k .1 .1 .0, k .1 .1 .1 .0) (ten right);
+    }
+  where
+    ten : (b : Bool) → eqb (cond b 0 10) 10 ≡ not b
+    ten true = refl
+    ten false = refl
+
 pub record Stages (s : State) (p : List ℕ) (staging marks echo : ℕ) : Type 0 where
   pub limits : withinLimits s ≡ true
   pub staging-is : staging ≡ stagingBytes
@@ -145,14 +173,9 @@ pub package-stages : (s : State) (p : List ℕ) (staging marks echo : ℕ) → i
     → Stages s p staging marks echo
 unfolding packageCallNumber
 package-stages s p staging marks echo h =
-    let first : List Check =
-    (withinLimits s && eqb staging stagingBytes && eqb marks marksBytes && eqb echo echoBytes, cause.bufferOrState)
-    ∷ (not (loadWaits (s .orders)), cause.loadWaits)
-    ∷ (formed p, cause.packageForm)
-    ∷ (fits p (s .staging .next), cause.pastStaging)
-    ∷ [] in
-    let k = passed-first isStaged first ((eqb (receivedSum p) (computedSum p), cause.packageSum) ∷ []) refl h in
-    let q = and-split _ _ (k .0) in
+    let sound : Bool = withinLimits s && eqb staging stagingBytes && eqb marks marksBytes && eqb echo echoBytes in
+    let k = staged sound (not (loadWaits (s .orders))) p (s .staging .next) h in
+    let q = and-split _ _ (k .is-sound) in
     let r = and-split _ _ (q .0) in
     let t = and-split _ _ (r .0) in
     record {
@@ -160,9 +183,9 @@ package-stages s p staging marks echo h =
       staging-is = eqb-true _ _ (t .1);
       marks-are = eqb-true _ _ (r .1);
       echo-is = eqb-true _ _ (q .1);
-      no-load = k .1 .0;
-      is-formed = k .1 .1 .0;
-      is-placeable = rw (k .1 .1 .0, k .1 .1 .1 .0);
+      no-load = k .is-idle;
+      is-formed = k .is-formed;
+      is-placeable = rw (k .is-formed, k .is-fitting);
     }
 
 -- ---- a close

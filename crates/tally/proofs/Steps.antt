@@ -1,14 +1,12 @@
 -- One call: its number, and the processor's world after it, are the tally's. Assumes nothing.
 use mathlib.Core.Path.{_≡_, refl, ap, _∙_}
-use mathlib.Core.Bool.{Bool, true, false, _&&_, not, cond, false≢true}
-use mathlib.Core.List.{List, [], _∷_}
+use mathlib.Core.Bool.{Bool, true, false, _&&_, not, false≢true}
+use mathlib.Core.List.{List}
 use Prim.Native.Nat.{ℕ}
 use borrow.Author.Tests.{eqb-true}
 use lib.Dec.{eqb}
 use lib.ListN.{length}
-use Rattle.causes.specs.Causes as cause
-use Rattle.causes.specs.Checks.{Check}
-use Rattle.causes.proofs.CheckLaws.{all-passed, passed-first}
+use Rattle.causes.proofs.CheckLaws.{all-passed}
 use Rattle.wire.proofs.Lists.{and-left, and-right, and-split, decide}
 use Rattle.wire.proofs.Pieces.{each-same}
 use Rattle.sort.specs.declared.event.Event.{Event}
@@ -24,6 +22,7 @@ use Rattle.accepted_line.proofs.ToldLaws.{Accepts, command-accepts}
 use Rattle.processor.specs.Line.{lineNumber, lineDone}
 use Rattle.processor.specs.Package.{isStaged, packageCallNumber, packageDone}
 use Rattle.processor.specs.Close.{closeNumber, closeDone}
+use Rattle.processor.proofs.CallLaws.{staged}
 use Rattle.processor.specs.Listing.{listingNumber, listingDone}
 use Rattle.tally.specs.Calls.{Lent, own, other, found, kept, isOwn, Call, event, reading}
 use Rattle.tally.specs.Calls.{line, load, close, listing, numberOf, next, reply, owns, LawfulCall}
@@ -128,29 +127,19 @@ pub load-stages : (t : Tally) (bytes : List ℕ) (g m : Lent) (echo : List ℕ) 
     → Stages t bytes g m (numberFor t (load bytes g m echo))
 unfolding numberFor
 load-stages t bytes g m echo h =
-    let first : List Check = (
-      eqb (length (lentStaging t g)) stagingBytes && eqb (length (lentMarks t m)) marksBytes && eqb (length echo) echoBytes,
-      cause.bufferOrState,
-    )
-    ∷ (not (loadWaitsFor t), cause.loadWaits)
-    ∷ (formed bytes, cause.packageForm)
-    ∷ (fits bytes (t .addresses .next), cause.pastStaging)
-    ∷ [] in
-    let k = passed-first isStaged first ((eqb (receivedSum bytes) (computedSum bytes), cause.packageSum) ∷ []) refl h in
-    let q = and-split _ _ (k .0) in
+    let sound : Bool =
+    eqb (length (lentStaging t g)) stagingBytes && eqb (length (lentMarks t m)) marksBytes && eqb (length echo) echoBytes in
+    let k = staged sound (not (loadWaitsFor t)) bytes (t .addresses .next) h in
+    let q = and-split _ _ (k .is-sound) in
     let r = and-split _ _ (q .0) in
     record {
       staging-is = eqb-true _ _ (r .0);
       marks-are = eqb-true _ _ (r .1);
-      no-load = k .1 .0;
-      is-formed = k .1 .1 .0;
-      is-fitting = k .1 .1 .1 .0;
-      number-tells = rw (k .0, k .1 .0, k .1 .1 .0, k .1 .1 .1 .0) (ten (eqb (receivedSum bytes) (computedSum bytes)));
+      no-load = k .is-idle;
+      is-formed = k .is-formed;
+      is-fitting = k .is-fitting;
+      number-tells = k .number-tells;
     }
-  where
-    ten : (b : Bool) → eqb (cond b 0 10) 10 ≡ not b
-    ten true = refl
-    ten false = refl
 
 -- ---- the world after
 

@@ -1,6 +1,6 @@
 -- Laws of lists made of numbered or equal pieces, or filled up to a length. Assumes nothing.
 use mathlib.Core.Path.{_≡_, refl, sym, ap, ap₂, _∙_}
-use mathlib.Core.Bool.{Bool, true, false, _&&_}
+use mathlib.Core.Bool.{Bool, true, false, _&&_, and-true, false≢true}
 use mathlib.Core.List.{List, [], _∷_, _++_, append-assoc, append-nil}
 use Prim.Native.Nat.{ℕ, zero, suc, _+_, _-_, _*_, _≤_, _<_}
 use native.Mathlib.Omega.{arith}
@@ -15,7 +15,7 @@ use Rattle.wire.specs.Bytes.{one, zeros, total, words, be32}
 use borrow.Author.Tests.{le-leb}
 use Rattle.wire.specs.Lists.{all, atMost}
 use Rattle.wire.proofs.Bytes.{total-append, zeros-more}
-use Rattle.wire.proofs.Lists.{and-split, all-append}
+use Rattle.wire.proofs.Lists.{and-split, all-append, decide}
 use Rattle.wire.specs.Pieces.{runs, table, each, countOf, filledUp, padded}
 
 -- ---- runs
@@ -159,6 +159,20 @@ module _ (p : ℕ → Bool) where
   unfolding each
   each-all zero h = refl
   each-all (suc n) h = rw (each-all n (λ i l. h i (omega arith)), h n (omega arith))
+
+  -- where one fails not all pass, and the other way round
+  pub each-fails : (n i : ℕ) → i < n → p i ≡ false → each n p ≡ false
+  each-fails n i l f = decide (each n p) (λ q. absurd (false≢true (sym f ∙ each-at n i l q))) (λ q. q)
+
+  pub each-some : (n : ℕ) → each n p ≡ false → (i : ℕ) × (i < n) × (p i ≡ false)
+  unfolding each
+  each-some zero e = absurd (false≢true (sym e))
+  each-some (suc n) e =
+      decide (p n)
+      (λ q.
+      let r = each-some n (sym (ap (λ (b : Bool). each n p && b) q ∙ and-true (each n p)) ∙ e) in
+      (r .0, omega (arith, r .1), r .2))
+      (λ q. (n, omega arith, q))
 
 pub each-same : (n : ℕ) (p q : ℕ → Bool) → ((i : ℕ) → i < n → p i ≡ q i) → each n p ≡ each n q
 unfolding each
