@@ -21,6 +21,10 @@ written wanted xs = convertDone wanted xs xs .out
 abbrev pub numberOf : (wanted : ℕ) → List ℕ → ℕ
 numberOf wanted xs = convertDone wanted xs xs .number
 
+-- nothing is counted yet
+abbrev pub noneCounted : Counts
+noneCounted = record { converted = 0; passed = 0; headers = 0; sums = 0; bodies = 0; codes = 0 }
+
 -- one more where the test passes, up to the largest number of 64 bits, which no run reaches
 abbrev pub more : ℕ → Bool → ℕ
 more n b = cond (b && ltb n 18446744073709551615) (n + 1) n

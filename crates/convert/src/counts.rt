@@ -1,6 +1,6 @@
 // What became of the packets.
 ghost use mathlib.Core.Path.{_≡_};
-ghost use Rattle.convert.specs.Block.{more, countedBy};
+ghost use Rattle.convert.specs.Block.{noneCounted, more, countedBy};
 
 pub struct Counts {
     pub converted: u64,
@@ -14,7 +14,9 @@ pub struct Counts {
 }
 
 // Of no packet.
-pub fn none() -> Counts {
+pub fn none() -> Counts
+    ensures { λ r. ⌜ r ≡ noneCounted ⌝ }
+{
     Counts {
         converted: 0,
         passed: 0,
