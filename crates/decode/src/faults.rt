@@ -1,7 +1,9 @@
 // The tests of a packet, and the number with which one is refused.
 ghost use mathlib.Core.Path.{_≡_};
 ghost use Prim.Native.Nat.{_+_, _*_, _≤_};
-ghost use lib.ListN.{length};
+ghost use lib.ListN.{length, getD};
+ghost use Rattle.wire.specs.Bytes.{at32};
+ghost use Rattle.sample_record.specs.Record.{recordGood};
 ghost use Rattle.packet.specs.Layout.{packetBytes, bodyAt, codeBytes, recordBytes};
 ghost use Rattle.decode.specs.Read.{fieldsGood, headerGood, sumGood, codesGood, zerosGood, recordsGood};
 ghost use Rattle.decode.specs.Read.{endGood, rateGood, sampleGood, beaconGood, bodyGood, readNumber};
@@ -13,7 +15,15 @@ use causes::unless;
 use packet::applications::SAMPLE_APPLICATION;
 use packet::layout;
 use rate_code::editions;
+use sample_record::FIRST_BOX;
+use sample_record::LAST_BOX;
+use wire::bits::wide8;
 use wire::read::u16_at;
+
+// A record of box 6 whose last byte is read as the highest is at least this, and one of box 116 is below the next.
+const LEAST_MIRRORED: u32 = 2 * (FIRST_BOX as u32) * 16777216;
+
+const MIRRORED_END: u32 = 2 * (LAST_BOX as u32 + 1) * 16777216;
 
 // The header's fields, but for the application number, the sequence count and the time.
 pub fn fields_good(packet: &[u8]) -> bool
@@ -76,6 +86,29 @@ pub fn zeros_good(packet: &[u8], at: usize, n: usize) -> bool
     good
 }
 
+// The number in the four bytes from `at` on, the least first. A function of its own: the compiler makes one load of it.
+fn mirrored(packet: &[u8], at: usize) -> u32
+    requires { ⌜ at + 4 ≤ length (now packet) ⌝ }
+    ensures { λ r. ⌜ r
+        ≡ getD (now (packet .entry)) at 0 + 256 * getD (now (packet .entry)) (at + 1) 0
+        + 65536 * getD (now (packet .entry)) (at + 2) 0 + 16777216 * getD (now (packet .entry)) (at + 3) 0 ⌝ }
+{
+    wide8(packet[at])
+        + 256 * wide8(packet[at + 1])
+        + 65536 * wide8(packet[at + 2])
+        + 16777216 * wide8(packet[at + 3])
+}
+
+// Whether the record in the four bytes from `at` on is empty or of a box that samples have. Box and priority are its last byte:
+// with that byte highest it is compared whole, without a shift.
+fn record_fits(packet: &[u8], at: usize) -> bool
+    requires { ⌜ at + 4 ≤ length (now packet) ⌝ }
+    ensures { λ r. ⌜ r ≡ recordGood (at32 (now (packet .entry)) at) ⌝ }
+{
+    let x = mirrored(packet, at);
+    (x == 0) | ((LEAST_MIRRORED <= x) & (x < MIRRORED_END))
+}
+
 // Whether each of the first n records is empty or of a box that samples have.
 fn records_good(packet: &[u8], n: usize) -> bool
     requires { ⌜ bodyAt + recordBytes * n ≤ length (now packet) ⌝ }
@@ -84,11 +117,7 @@ fn records_good(packet: &[u8], n: usize) -> bool
     let mut good = true;
     let mut i: usize = 0;
     while i < n {
-        good = good
-            & sample_record::record_good(wire::read::u32_at(
-                packet,
-                layout::BODY_AT + layout::RECORD_BYTES * i,
-            ));
+        good = good & record_fits(packet, layout::BODY_AT + layout::RECORD_BYTES * i);
         i += 1;
     }
     good

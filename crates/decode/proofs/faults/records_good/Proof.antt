@@ -1,9 +1,8 @@
 -- `records_good` has tested, after i turns, the first i records.
 use borrow.Author.Needs.{needs}
 use Prim.Native.Nat.{_≤_, _-_}
-use mathlib.Core.Path.{_≡_, ap, _∙_}
+use mathlib.Core.Path.{_≡_}
 use native.Mathlib.Omega.{arith}
-use Rattle.sample_record.specs.Record.{recordGood}
 use Rattle.decode.specs.Read.{recordsGood}
 use Rattle.wire.proofs.Pieces.{each-start, each-turn, each-end}
 use Rattle.decode.proofs.faults.records_good.Statement.{statement}
@@ -22,8 +21,8 @@ loop-holds c = (omega arith, each-start _)
 loop-again : tie.Need-loop-again Inv-loop μ-loop
 unfolding recordsGood
 loop-again c =
-    let l = c .before .before .before in
-    (omega arith, each-turn _ (l .loop .i) (l .loop .inv .1) (c .record-good .ensures ∙ ap recordGood (c .before .u32-at .ensures)))
+    let l = c .before .before in
+    (omega arith, each-turn _ (l .loop .i) (l .loop .inv .1) (c .record-fits .ensures))
 
 returns : tie.Need-returns Inv-loop μ-loop
 unfolding recordsGood
@@ -39,7 +38,6 @@ records-good-spec =
     loop-holds
     (λ c. search needs)
     (λ c. search needs)
-    (λ c κs. search needs)
     (λ c κs. search needs)
     (λ c. search needs)
     (λ c. search needs)

@@ -1,82 +1,50 @@
--- `table_sum` has added, after i turns, the first 4 i words and a multiple of 2^24; the last three words are added behind the loop.
+-- `table_sum` has added, after k turns, the words of the first k blocks; the last three words are added behind the loop.
 use borrow.Author.Needs.{needs}
 use Prim.Native.Nat.{ℕ, _≤_, _-_, _+_, _*_, _%_}
 use mathlib.Core.List.{List}
-use mathlib.Core.Path.{_≡_, refl, sym, ap, _∙_}
+use mathlib.Core.Path.{_≡_, sym, ap, _∙_}
 use native.Mathlib.Omega.{arith}
 use denote.Ref.{now}
-use Rattle.wire.specs.Bytes.{at24, total}
 use Rattle.tables.specs.Tables.{first, tableWords, wordAt}
-use Rattle.wire.specs.Pieces.{table}
-use Rattle.packet.specs.TableSum.{tableSum}
-use Rattle.wire.proofs.Pieces.{total-more}
+use Rattle.packet.specs.TableSum.{wordSum, tableSum}
+use Rattle.packet.proofs.WordSums.{no-words, first-more, words-split, words-by-address}
 use Rattle.packet.proofs.table_sum.table_sum.Statement.{statement}
 use Rattle.packet.proofs.table_sum.table_sum.Tie as tie
 
-mod-more : (s t a b c : ℕ) → s % 16777216 ≡ t % 16777216 → (s + a + b + c) % 16777216 ≡ (t + a + b + c) % 16777216
-mod-more s t a b c e = omega (arith, e)
-
 module _ (tables : List ℕ) where
-  abbrev word : ℕ → ℕ
-  word k = wordAt tables (first + k)
+  block-more : (k : ℕ) → wordSum tables 0 (2624 * (k + 1)) ≡ wordSum tables 0 (2624 * k) + wordSum tables (7872 * k) 2624
+  block-more k =
+      let n : 2624 * (k + 1) ≡ 2624 * k + 2624 = omega arith in
+      let e : 0 + 3 * (2624 * k) ≡ 7872 * k = omega arith in
+      ap (wordSum tables 0) n
+      ∙ words-split tables 0 (2624 * k) 2624
+      ∙ ap (λ (at : ℕ). wordSum tables 0 (2624 * k) + wordSum tables at 2624) e
 
-  -- the sum of the first n words
-  abbrev summed : ℕ → ℕ
-  summed n = total (table n word)
-
-  -- word n stands in the three bytes from 3 n on
-  word-is : (n at : ℕ) → 3 * n ≡ at → word n ≡ at24 tables at
-  word-is n at e = let k : 3 * (first + n - first) ≡ at = omega (arith, e) in ap (at24 tables) k
-
-  -- four words more
-  four-more : (i : ℕ) → summed (4 * (i + 1))
-      ≡ summed (4 * i)
-      + (at24 tables (12 * i) + at24 tables (12 * i + 3) + at24 tables (12 * i + 6) + at24 tables (12 * i + 9))
-  four-more i =
-      let n = 4 * i in
-      let e : 4 * (i + 1) ≡ n + 1 + 1 + 1 + 1 = omega arith in
-      ap summed e
-      ∙ omega (
-        arith,
-        total-more word n,
-        total-more word (n + 1),
-        total-more word (n + 1 + 1),
-        total-more word (n + 1 + 1 + 1),
-        word-is n (12 * i) (omega arith),
-        word-is (n + 1) (12 * i + 3) (omega arith),
-        word-is (n + 1 + 1) (12 * i + 6) (omega arith),
-        word-is (n + 1 + 1 + 1) (12 * i + 9) (omega arith),
-      )
-
-  -- and the three behind the last four
-  three-more : (sum a b c : ℕ) → sum % 16777216 ≡ summed 20992 % 16777216 → a ≡ word 20992 → b ≡ word 20993 → c ≡ word 20994
-      → (sum + a + b + c) % 16777216 ≡ summed tableWords % 16777216
-  three-more sum a b c e ea eb ec =
-      let three : summed tableWords ≡ summed 20992 + word 20992 + word 20993 + word 20994 =
-      total-more word 20994
-      ∙ ap (λ (n : ℕ). n + word 20994) (total-more word 20993 ∙ ap (λ (n : ℕ). n + word 20993) (total-more word 20992)) in
-      (λ i. (sum + ea i + eb i + ec i) % 16777216)
-      ∙ mod-more sum (summed 20992) (word 20992) (word 20993) (word 20994) e
-      ∙ sym (ap (λ (n : ℕ). n % 16777216) three)
+  -- and the three behind the last block
+  three-more : wordSum tables 0 tableWords
+      ≡ wordSum tables 0 20992 + wordAt tables (first + 20992) + wordAt tables (first + 20993) + wordAt tables (first + 20994)
+  three-more =
+      first-more tables 20994
+      ∙ ap (λ (n : ℕ). n + wordAt tables (first + 20994))
+      (first-more tables 20993 ∙ ap (λ (n : ℕ). n + wordAt tables (first + 20993)) (first-more tables 20992))
 
 abbrev Inv-loop : tie.InvT-loop
-Inv-loop tables sum₀ i₀ sum i =
-    (i ≤ 5248) × (sum ≤ 562949953421312 * i) × (sum % 16777216 ≡ summed tables (4 * i) % 16777216)
+Inv-loop tables sum₀ k₀ sum k = (k ≤ 8) × (sum ≤ 1099511627776 * k) × (sum ≡ wordSum tables 0 (2624 * k))
 
 abbrev μ-loop : tie.MeasureT-loop
-μ-loop tables sum₀ i₀ sum i = 5248 - i
+μ-loop tables sum₀ k₀ sum k = 8 - k
 
 loop-holds : tie.Need-loop-holds Inv-loop μ-loop
-unfolding table total
-loop-holds c = (omega arith, omega arith, refl)
+loop-holds c = (omega arith, omega arith, sym (no-words _ 0))
 
 loop-again : tie.Need-loop-again Inv-loop μ-loop
 loop-again c =
     let l = c .before .before in
-    let more = four-more (now (l .before .before .args .tables)) (l .loop .i) in (
+    let v = l .loop .inv in
+    let more = block-more (now (l .before .before .args .tables)) (l .loop .k) in (
       omega arith,
-      omega (arith, c .four-words .ensures .1),
-      omega (arith, l .loop .inv .2, c .four-words .ensures .0, more),
+      omega (arith, v .1, c .block-sum .ensures .1),
+      omega (arith, v .2, c .block-sum .ensures .0, more),
     )
 
 returns : tie.Need-returns Inv-loop μ-loop
@@ -86,10 +54,13 @@ returns c =
     let w₁ = w₂ .before .before in
     let l = w₁ .before .before .before in
     let tables = now (l .before .before .args .tables) in
-    let e : l .loop .i ≡ 5248 = omega arith in
-    let four = l .loop .inv .2 ∙ ap (λ (n : ℕ). summed tables (4 * n) % 16777216) e in (
-      three-more tables (l .loop .sum) _ _ _ four (w₁ .wide32 .ensures ∙ w₁ .before .word .ensures .0)
-          (w₂ .wide322 .ensures ∙ w₂ .before .word2 .ensures .0) (c .wide323 .ensures ∙ c .before .word3 .ensures .0),
+    let n : 2624 * l .loop .k ≡ 20992 = omega arith in
+    let e = l .loop .inv .2 ∙ ap (wordSum tables 0) n in
+    let ea = w₁ .wide32 .ensures ∙ w₁ .before .word .ensures .0 in
+    let eb = w₂ .wide322 .ensures ∙ w₂ .before .word2 .ensures .0 in
+    let ec = c .wide323 .ensures ∙ c .before .word3 .ensures .0 in (
+      (λ i. (e i + ea i + eb i + ec i) % 16777216)
+          ∙ ap (λ (n : ℕ). n % 16777216) (sym (words-by-address tables tableWords ∙ three-more tables)),
       omega arith,
     )
 
@@ -101,12 +72,11 @@ table-sum-spec =
     μ-loop
     loop-holds
     (λ c. search needs)
-    (λ c. search needs)
+    (λ c κs. search needs)
     (λ c. search needs)
     (λ c. search needs)
     (λ c. search needs)
     loop-again
-    (λ c. search needs)
     (λ c. search needs)
     (λ c κs. search needs)
     (λ c κs. search needs)
