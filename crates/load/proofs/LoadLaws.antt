@@ -1,18 +1,19 @@
 -- Laws of loads. Assumes nothing.
-use mathlib.Core.Path.{_≡_, refl, ap, _∙_}
+use mathlib.Core.Path.{_≡_, refl, sym, ap, _∙_}
 use mathlib.Core.Bool.{true, _&&_}
-use mathlib.Core.List.{List, [], _∷_}
-use Prim.Native.Nat.{ℕ, zero, suc, _+_, _-_, _*_, _≤_, _<_}
+use mathlib.Core.List.{List, [], _∷_, _++_, append-nil}
+use Prim.Native.Nat.{ℕ, zero, suc, _+_, _-_, _*_, _/_, _%_, _≤_, _<_}
 use native.Mathlib.Omega.{arith}
+use native.Mathlib.Numerals.{add-one}
 use lib.Dec.{leb}
-use lib.ListN.{length, take, drop, length-append, length-take, length-replicate}
-use lib.Seq.{length-take-le}
+use lib.ListN.{length, take, drop, getD, length-append, length-take, length-replicate}
+use lib.Seq.{length-take-le, take-add, drop-cons}
 use borrow.Author.Tests.{leb-true}
-use Rattle.wire.specs.Bytes.{zeros}
+use Rattle.wire.specs.Bytes.{zeros, put, be24}
 use Rattle.wire.specs.Pieces.{padded}
-use Rattle.wire.proofs.Bytes.{length-put}
+use Rattle.wire.proofs.Bytes.{length-put, length-part, then}
 use Rattle.wire.proofs.Lists.{and-left, and-right}
-use Rattle.wire.proofs.Pieces.{length-padded}
+use Rattle.wire.proofs.Pieces.{length-padded, padded-is}
 use Rattle.tables.specs.Tables.{first, end, tableBytes, byteOf}
 use Rattle.load.specs.Staging.{stagingBytes}
 use Rattle.load.specs.Load.{wordWidth, loadWords, loadLawful, packedWord, packedWords, packed, loaded}
@@ -106,6 +107,63 @@ module _ (w : ℕ) (bytes : List ℕ) (small : w ≤ 3) where
   length-packed-words zero = refl
   length-packed-words (suc n) =
       length-append (packedWords w bytes n) (packedWord w bytes n) ∙ omega (arith, length-packed-words n, length-packed-word n)
+
+-- one word more, behind those that were put
+pub word-more : {x₁ x₂ : List ℕ} (xs : List ℕ) (at w : ℕ) (bytes : List ℕ) (k : ℕ) → w ≤ 3 → x₁ ≡ put xs at (packedWords w bytes k)
+    → x₂ ≡ put x₁ (at + 3 * k) (packedWord w bytes k) → at + 3 * k ≤ length xs → x₂ ≡ put xs at (packedWords w bytes (k + 1))
+unfolding packedWords
+word-more xs at w bytes k small e₁ e₂ h =
+    let l : length (packedWords w bytes k) ≡ 3 * k = length-packed-words w bytes small k in
+    rw add-one (then xs at (packedWords w bytes k) (packedWord w bytes k) (at + 3 * k) e₁ e₂ (omega arith) h)
+
+-- a word whose bytes are all there has no zeros behind
+full-word : (w : ℕ) (bytes : List ℕ) (k : ℕ) → w * k + w ≤ length bytes
+    → packedWord w bytes k ≡ zeros (3 - w) ++ take w (drop (w * k) bytes)
+full-word w bytes k h =
+    let p : List ℕ = take w (drop (w * k) bytes) in
+    let z : w - w ≡ 0 = omega arith in
+    ap (λ (l : List ℕ). zeros (3 - w) ++ l)
+    (padded-is w w p (length-part bytes (w * k) w h) ∙ ap (λ (n : ℕ). p ++ zeros n) z ∙ append-nil p)
+
+-- words of three bytes are the bytes
+pub packed-threes : (bytes : List ℕ) (n : ℕ) → 3 * n ≤ length bytes → take (3 * n) bytes ≡ packedWords 3 bytes n
+unfolding packedWords
+packed-threes bytes zero h = refl
+packed-threes bytes (suc n) h =
+    let e : 3 * suc n ≡ 3 * n + 3 = omega arith in
+    let f = sym (full-word 3 bytes n (omega arith)) in
+    ap (λ (m : ℕ). take m bytes) e ∙ take-add (3 * n) 3 bytes ∙ (λ i. packed-threes bytes n (omega arith) i ++ f i)
+
+-- words of one byte and of two are those bytes' numbers
+pub packed-one-byte : (bytes : List ℕ) (k v : ℕ) → k < length bytes → v ≡ getD bytes k 0 → v < 256
+    → be24 v ≡ packedWord 1 bytes k
+packed-one-byte bytes k v h e g =
+    let a : v / 65536 ≡ 0 = omega arith in
+    let b : v / 256 % 256 ≡ 0 = omega arith in
+    let c : v % 256 ≡ getD bytes k 0 = omega arith in
+    let i : 1 * k ≡ k = omega arith in
+    (λ j. a j ∷ b j ∷ c j ∷ [])
+    ∙ sym (full-word 1 bytes k (omega arith)
+    ∙ ap (λ (l : List ℕ). zeros 2 ++ take 1 l) (ap (λ (m : ℕ). drop m bytes) i ∙ drop-cons bytes k 0 h))
+
+pub packed-two-bytes : (bytes : List ℕ) (k x y : ℕ) → 2 * k + 1 < length bytes → x ≡ getD bytes (2 * k) 0
+    → y ≡ getD bytes (2 * k + 1) 0 → x < 256 → y < 256 → be24 (256 * x + y) ≡ packedWord 2 bytes k
+packed-two-bytes bytes k x y h e f g t =
+    let a : (256 * x + y) / 65536 ≡ 0 = omega arith in
+    let b : (256 * x + y) / 256 % 256 ≡ getD bytes (2 * k) 0 = omega arith in
+    let c : (256 * x + y) % 256 ≡ getD bytes (2 * k + 1) 0 = omega arith in
+    let s : suc (2 * k) ≡ 2 * k + 1 = omega arith in
+    let d : drop (2 * k) bytes ≡ getD bytes (2 * k) 0 ∷ getD bytes (2 * k + 1) 0 ∷ drop (suc (2 * k + 1)) bytes =
+    drop-cons bytes (2 * k) 0 (omega arith)
+    ∙ ap (λ (l : List ℕ). getD bytes (2 * k) 0 ∷ l) (ap (λ (m : ℕ). drop m bytes) s ∙ drop-cons bytes (2 * k + 1) 0 h) in
+    (λ j. a j ∷ b j ∷ c j ∷ [])
+    ∙ sym (full-word 2 bytes k (omega arith) ∙ ap (λ (l : List ℕ). zeros 1 ++ take 2 l) d)
+
+-- the words that n bytes fill: at most one more takes the rest
+pub words-whole : (y n : ℕ) → (n / wordWidth y ≤ loadWords y n) × (loadWords y n ≤ n / wordWidth y + 1) × (wordWidth y * (n / wordWidth y) ≤ n)
+words-whole zero n = (omega arith, omega arith, omega arith)
+words-whole (suc zero) n = (omega arith, omega arith, omega arith)
+words-whole (suc (suc y)) n = (omega arith, omega arith, omega arith)
 
 -- three bytes by each way to pack
 packed-three : packed 0 (1 ∷ 2 ∷ 3 ∷ []) ≡ 1 ∷ 2 ∷ 3 ∷ []

@@ -6,7 +6,7 @@ ghost use lib.ListN.{length};
 ghost use Rattle.load.specs.Staging.{stagingBytes, payloadBytes, payload, receivedSum, computedSum, formed, placeable};
 ghost use Rattle.load.specs.Staging.{packageNumber, stagingAfter, addressesAfter, freshAddresses, addressesWithin};
 use causes::unless;
-use wire::read::byte_sum;
+use wire::read::long_sum;
 use wire::read::u16_at;
 use wire::write::put_bytes;
 
@@ -74,7 +74,7 @@ pub fn computed_sum(p: &[u8]) -> u16
     requires { ⌜ formed (now p) ≡ true ⌝ }
     ensures { λ r. ⌜ r ≡ computedSum (now (p .entry)) ⌝ }
 {
-    (byte_sum(payload(p)) % 65536) as u16
+    (long_sum(payload(p)) % 65536) as u16
 }
 
 // The package's number: 8, 9 or 10, the lowest that applies, or 0.

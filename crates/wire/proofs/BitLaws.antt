@@ -96,6 +96,14 @@ bit-with x k j b hk hj =
 pub with-fits : (x k : ℕ) (b : Bool) → x < 256 → k < 8 → withBit x k b < 256
 with-fits x k b hx hk = right-here b x k 0 hx hk (omega arith) .1
 
+-- a byte with no bit set is zero, and zero has none: tried for every byte
+each-none : each 256 (λ x. agree (eqb x 0) (each 8 (λ j. not (bitAt x j)))) ≡ true
+unfolding each
+each-none = refl
+
+pub no-bits : (x : ℕ) → x < 256 → eqb x 0 ≡ each 8 (λ j. not (bitAt x j))
+no-bits x h = agree-is _ _ (each-at (λ x. agree (eqb x 0) (each 8 (λ j. not (bitAt x j)))) 256 x h each-none)
+
 -- what a bit's value added or taken away makes of a number whose bit k is t
 module _ (x k v : ℕ) (t f : Bool) (ev : v ≡ 2 ^ k) (et : t ≡ bitAt x k) where
   pub bit-cleared : (t && not f) ≡ true → x - v ≡ withBit x k f

@@ -136,6 +136,27 @@ pub total-drop : (p : List ℕ) (i : ℕ) → i < length p → total (drop i p) 
 unfolding total
 total-drop p i h = rw (add-one, drop-cons p i 0)
 
+-- the eight numbers from an index on, and what is behind them
+pub total-eight : (p : List ℕ) (at : ℕ) → at + 8 ≤ length p
+    → total (drop at p)
+    ≡ getD p at 0 + getD p (at + 1) 0 + getD p (at + 2) 0 + getD p (at + 3) 0 + getD p (at + 4) 0 + getD p (at + 5) 0
+    + getD p (at + 6) 0 + getD p (at + 7) 0 + total (drop (at + 8) p)
+total-eight p at h =
+    omega (
+      arith,
+      total-drop p at (omega arith),
+      total-next (at + 1) (at + 2) (omega arith) (omega arith),
+      total-next (at + 2) (at + 3) (omega arith) (omega arith),
+      total-next (at + 3) (at + 4) (omega arith) (omega arith),
+      total-next (at + 4) (at + 5) (omega arith) (omega arith),
+      total-next (at + 5) (at + 6) (omega arith) (omega arith),
+      total-next (at + 6) (at + 7) (omega arith) (omega arith),
+      total-next (at + 7) (at + 8) (omega arith) (omega arith),
+    )
+  where
+    total-next : (i j : ℕ) → i < length p → j ≡ i + 1 → total (drop i p) ≡ getD p i 0 + total (drop j p)
+    total-next i j g e = total-drop p i g ∙ ap (λ (k : ℕ). getD p i 0 + total (drop k p)) (sym e)
+
 pub total-end : (p : List ℕ) (i : ℕ) → length p ≤ i → total (drop i p) ≡ 0
 unfolding total
 total-end p i h = ap total (drop-of-length-le p h)

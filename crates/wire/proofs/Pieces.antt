@@ -1,6 +1,6 @@
 -- Laws of lists made of numbered or equal pieces, or filled up to a length. Assumes nothing.
 use mathlib.Core.Path.{_≡_, refl, sym, ap, ap₂, _∙_}
-use mathlib.Core.Bool.{Bool, true, false, _&&_, and-true, false≢true}
+use mathlib.Core.Bool.{Bool, true, false, _&&_, and-true, and-assoc, false≢true}
 use mathlib.Core.List.{List, [], _∷_, _++_, append-assoc, append-nil}
 use Prim.Native.Nat.{ℕ, zero, suc, _+_, _-_, _*_, _≤_, _<_}
 use native.Mathlib.Omega.{arith}
@@ -178,6 +178,14 @@ pub each-same : (n : ℕ) (p q : ℕ → Bool) → ((i : ℕ) → i < n → p i 
 unfolding each
 each-same zero p q h = refl
 each-same (suc n) p q h = λ k. each-same n p q (λ i l. h i (omega arith)) k && h n (omega arith) k
+
+-- the first a and the b behind them
+pub each-join : (a b : ℕ) (p : ℕ → Bool) → each (a + b) p ≡ (each a p && each b (λ j. p (a + j)))
+unfolding each
+each-join a zero p = let e : a + 0 ≡ a = omega arith in ap (λ (n : ℕ). each n p) e ∙ sym (and-true (each a p))
+each-join a (suc b) p =
+    let e : a + suc b ≡ suc (a + b) = omega arith in
+    ap (λ (n : ℕ). each n p) e ∙ ap (λ (t : Bool). t && p (a + b)) (each-join a b p) ∙ and-assoc (each a p) (each b (λ j. p (a + j))) (p (a + b))
 
 -- ---- how many pass a test
 

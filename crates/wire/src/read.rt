@@ -1,7 +1,7 @@
 // Readers of a lent part.
 ghost use mathlib.Core.Path.{_≡_};
 ghost use Prim.Native.Nat.{_+_, _*_, _≤_, _<_};
-ghost use lib.ListN.{length};
+ghost use lib.ListN.{length, drop};
 ghost use Rattle.wire.specs.Bytes.{at16, at24, at32, total};
 use crate::bits::wide8;
 
@@ -40,6 +40,47 @@ pub fn byte_sum(part: &[u8]) -> u32
 {
     let mut sum: u32 = 0;
     let mut i: usize = 0;
+    while i < part.len() {
+        sum = sum + wide8(part[i]);
+        i += 1;
+    }
+    sum
+}
+
+// The sum of the 8 bytes from `at` on.
+fn sum_8(part: &[u8], at: usize) -> u32
+    requires { ⌜ at + 8 ≤ length (now part) ⌝ }
+    ensures { λ r. ⌜ (total (drop at (now (part .entry))) ≡ r + total (drop (at + 8) (now (part .entry)))) × (r ≤ 2040) ⌝ }
+{
+    wide8(part[at])
+        + wide8(part[at + 1])
+        + wide8(part[at + 2])
+        + wide8(part[at + 3])
+        + wide8(part[at + 4])
+        + wide8(part[at + 5])
+        + wide8(part[at + 6])
+        + wide8(part[at + 7])
+}
+
+// The sum of the 32 bytes from `at` on. So many in a row the compiler adds by sixteen at a time.
+fn sum_32(part: &[u8], at: usize) -> u32
+    requires { ⌜ at + 32 ≤ length (now part) ⌝ }
+    ensures { λ r. ⌜ (total (drop at (now (part .entry))) ≡ r + total (drop (at + 32) (now (part .entry)))) × (r ≤ 8160) ⌝ }
+{
+    sum_8(part, at) + sum_8(part, at + 8) + sum_8(part, at + 16) + sum_8(part, at + 24)
+}
+
+// The same of many bytes, 32 at a time.
+pub fn long_sum(part: &[u8]) -> u32
+    requires { ⌜ length (now part) ≤ 1000000 ⌝ }
+    ensures { λ r. ⌜ (r ≡ total (now (part .entry))) × (r ≤ 255 * length (now (part .entry))) ⌝ }
+{
+    let mut sum: u32 = 0;
+    let mut i: usize = 0;
+    while 32 <= part.len() - i {
+        sum = sum + sum_32(part, i);
+        i += 32;
+    }
     while i < part.len() {
         sum = sum + wide8(part[i]);
         i += 1;

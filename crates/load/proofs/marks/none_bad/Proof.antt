@@ -1,22 +1,22 @@
--- `none_bad` has found, after i turns, whether none of the first i bytes is marked.
+-- `none_bad` has found, from the whole bytes on and then turn by turn, whether none of the first i bytes is marked.
 use borrow.Author.Needs.{needs}
 use Prim.Native.Nat.{_≤_, _-_}
 use mathlib.Core.Path.{_≡_, ap}
 use mathlib.Core.Bool.{not}
 use native.Mathlib.Omega.{arith}
-use Rattle.wire.proofs.Pieces.{each-start, each-turn, each-end}
+use Rattle.wire.proofs.Pieces.{each-turn, each-end}
 use Rattle.load.specs.Marks.{noneBad}
 use Rattle.load.proofs.marks.none_bad.Statement.{statement}
 use Rattle.load.proofs.marks.none_bad.Tie as tie
 
 abbrev Inv-loop : tie.InvT-loop
-Inv-loop marks reach good₀ i₀ good i = (i ≤ reach) × (good ≡ noneBad marks i)
+Inv-loop marks reach whole good₀ i₀ good i = (i ≤ reach) × (good ≡ noneBad marks i)
 
 abbrev μ-loop : tie.MeasureT-loop
-μ-loop marks reach good₀ i₀ good i = reach - i
+μ-loop marks reach whole good₀ i₀ good i = reach - i
 
 loop-holds : tie.Need-loop-holds Inv-loop μ-loop
-loop-holds c = (omega arith, each-start _)
+loop-holds c = (omega arith, c .none-whole .ensures)
 
 loop-again : tie.Need-loop-again Inv-loop μ-loop
 loop-again c =
@@ -25,7 +25,8 @@ loop-again c =
 
 returns : tie.Need-returns Inv-loop μ-loop
 returns c =
-    let l = c .before in each-end _ (l .loop .i) (l .before .before .args .reach) (omega arith) (omega arith) (l .loop .inv .1)
+    let l = c .before in
+    each-end _ (l .loop .i) (l .before .before .before .args .reach) (omega arith) (omega arith) (l .loop .inv .1)
 
 pub none-bad-spec : {M : Type 1} → statement M
 none-bad-spec =
@@ -33,6 +34,8 @@ none-bad-spec =
     (tie.spec
     Inv-loop
     μ-loop
+    (λ c κs. search needs)
+    (λ c. search needs)
     loop-holds
     (λ c κs. search needs)
     (λ c. search needs)

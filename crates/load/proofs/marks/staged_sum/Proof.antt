@@ -7,16 +7,16 @@ use borrow.Author.Needs.{needs}
 use Rattle.load.proofs.marks.staged_sum.Statement.{statement}
 use Rattle.load.proofs.marks.staged_sum.Tie as tie
 
-slice-aggregate-byte-sum : tie.Need-slice-aggregate-byte-sum
-slice-aggregate-byte-sum c = sym (length-take-le _ _ (omega arith))
+slice-aggregate-long-sum : tie.Need-slice-aggregate-long-sum
+slice-aggregate-long-sum c = sym (length-take-le _ _ (omega arith))
 
-byte-sum-requires : tie.Need-byte-sum-requires
-byte-sum-requires c κs =
+long-sum-requires : tie.Need-long-sum-requires
+long-sum-requires c κs =
     let s = c .before .before in
     omega (arith, length-take-le (s .args .reach) (now (s .args .staging)) (omega arith))
 
 returns : tie.Need-returns
-returns c = c .byte-sum .ensures .0
+returns c = c .long-sum .ensures .0
 
 pub staged-sum-spec : {M : Type 1} → statement M
-staged-sum-spec = tie.close (tie.spec slice-aggregate-byte-sum byte-sum-requires returns)
+staged-sum-spec = tie.close (tie.spec slice-aggregate-long-sum long-sum-requires returns)
