@@ -1,8 +1,9 @@
 #!/usr/bin/env bash
 # The proved programs against the second implementation (reference/), byte for byte.
 #   tests/compare.sh                    the fixed set that the gate runs
-#   tests/compare.sh FROM TO [CALLS]    a stream of CALLS calls (5,000) for each seed FROM to TO, for replay
-# The fixed set begins with the cases of cause 1 (limit_cases), which no stream can give: the output stored beside the
+#   tests/compare.sh FROM TO [CALLS]    for each seed FROM to TO two streams of CALLS calls (5,000) for replay, one of
+#                                       them with states that are handed in
+# The fixed set begins with buffers of other lengths (limit_cases, ground_cases), which no stream can give: the output stored beside the
 # proved program must be what the second implementation prints, and the proved program must print the same.
 # The fixed set ends with archives that convert takes there and back.
 # A difference prints the seed and the first differing line. At the end: how often each number was answered.
@@ -67,20 +68,27 @@ archive() {
     [ $# -gt 2 ] || same "there and back, the archive $archive" "$work/archive" "$work/back"
 }
 
-# Odd states, lengths and slots.
-limits() {
+# Buffers of other lengths.
+lengths() {
     : > "$work/stdin"
-    run "$plain" limit_cases expected
-    run "$proved" limit_cases found
-    (cat crates/limit_cases/stdout && echo "exit status 0") > "$work/stored"
-    same "the stored output of limit_cases" "$work/expected" "$work/stored"
-    same "limit_cases" "$work/expected" "$work/found"
+    local cases
+    for cases in limit_cases ground_cases; do
+        run "$plain" "$cases" expected
+        run "$proved" "$cases" found
+        (cat "crates/$cases/stdout" && echo "exit status 0") > "$work/stored"
+        same "the stored output of $cases" "$work/expected" "$work/stored"
+        same "$cases" "$work/expected" "$work/found"
+    done
 }
 
 # The gate's set: the cases of cause 1, ordinary streams, and those that reach what an ordinary one does not.
 fixed() {
     local seed
-    limits
+    lengths
+    compare replay 70 0 --limits
+    for seed in $(seq 71 90); do
+        compare replay "$seed" 2000 --states
+    done
     for seed in $(seq 1 40); do
         compare replay "$seed" 2000
     done
@@ -95,9 +103,6 @@ fixed() {
     compare replay 66 200 --frames 300
     compare minute 67 0 --minute --frames 65600
     archive 68 100000
-    # README shows this archive, and what convert says of it each way.
-    sed -n 's/^    \([0-9]* converted, .*\)/\1/p' README.md > "$work/shown"
-    same "what README shows of convert" "$work/shown" "$work/error.bin"
     archive 69 20000 --damaged
 }
 
@@ -106,6 +111,7 @@ trap 'rm -rf "$work" "$answers"' EXIT
 if [ $# -ge 2 ]; then
     for seed in $(seq "$1" "$2"); do
         compare replay "$seed" "${3:-5000}"
+        compare replay "$seed" "${3:-5000}" --states
     done
 else
     fixed

@@ -155,14 +155,18 @@ def record_of(e, s):
     return pack(e.t, channel_of(e), e.flag(FLG0), e.flag(FLG1), gain_of(e), e.flag(ERROR), s.box, s.priority)
 
 
-def place_samples(samples, limhi):
-    """The used slots and how many were replaced, from (record, priority) of each eligible event in order."""
+def place_samples(samples, limhi, used=0, replaced=0, slots=()):
+    """The slots, how many are used and how many were replaced, from (record, priority) of each eligible event in order;
+    of an interval under way, from those there were."""
     # "the first 704 eligible in order; then, for h from 0, the h-th later one with priority 1 replaces slot h while
     # h < LIMHI; all others drop out"
-    slots = [record for record, _ in samples[:SLOTS]]
-    later = [record for record, priority in samples[SLOTS:] if priority == 1][:limhi]
-    slots[:len(later)] = later
-    return slots, len(later)
+    slots = list(slots)
+    free = SLOTS - used
+    first = [record for record, _ in samples[:free]]
+    slots[used:used + len(first)] = first
+    later = [record for record, priority in samples[free:] if priority == 1][:max(0, limhi - replaced)]
+    slots[replaced:replaced + len(later)] = later
+    return slots, used + len(first), replaced + len(later)
 
 
 # ---- "Commands and loads"
@@ -339,10 +343,13 @@ def codes(counts):
     return put_numbers(map(second_code, counts), 2)
 
 
+def flags_of(s):
+    return 128 * s.hv + 64 * s.eonly + 32 * s.toferror + 16 * s.junk
+
+
 def rate_packet(frame, time, totals, boxes, s, total_of_tables):
-    flags = 128 * s.hv + 64 * s.eonly + 32 * s.toferror + 16 * s.junk
     return packet(RATE, frame, time, [
-        (11, codes(totals)), (27, codes(boxes)), (260, bytes([s.hvstep, flags])),
+        (11, codes(totals)), (27, codes(boxes)), (260, bytes([s.hvstep, flags_of(s)])),
         (262, s.limhi.to_bytes(2, "big")), (264, total_of_tables.to_bytes(3, "big")), (269, bytes([MARK]))])
 
 
@@ -505,6 +512,83 @@ class Gatherer:
         return 0
 
 
+# ---- a state that anyone hands in, and its limits
+
+# A waiting command: a setting and its value, or 255, an address and y. What stands where none waits:
+EMPTY = (0, 0, 0)
+LOAD = 255
+KEYWORDS = [k.decode() for k in HIGHEST]
+
+
+@dataclass(frozen=True)
+class State:
+    frame: int = 0
+    taken: int = 0
+    boxes: tuple = (0,) * BOXES
+    beacons: tuple = (0,) * BEACONS
+    used: int = 0
+    replaced: int = 0
+    readings: int = 0
+    totals: tuple = (0,) * 8
+    settings: Settings = Settings()
+    accepted: int = 0
+    waits: int = 0
+    entries: tuple = (EMPTY,) * MAX_COMMANDS
+    next: int = 0
+    reach: int = 0
+
+
+def state_bytes(s):
+    """The state in the layout of replay's records 20 and 21."""
+    words = [s.taken, *s.boxes, *s.beacons, s.used, s.replaced, s.readings, *s.totals]
+    settings = s.settings.limhi.to_bytes(2, "big") + bytes([flags_of(s.settings), s.settings.hvstep])
+    entries = b"".join(bytes([kind]) + value.to_bytes(4, "big") + bytes([y]) for kind, value, y in s.entries)
+    return s.frame.to_bytes(2, "big") + put_numbers(words, 4) + settings + put_numbers([s.accepted, s.waits], 4) + entries \
+        + put_numbers([s.next, s.reach], 4)
+
+
+STATE_BYTES = len(state_bytes(State()))
+
+
+def state_of(data):
+    """The state of these bytes; None where a kind is none, or a setting's value over 65,535."""
+    taken, *rest = get_numbers(data[2:562], 4)
+    limhi, flags, hvstep = int.from_bytes(data[562:564], "big"), data[564], data[565]
+    hv, eonly, toferror, junk = (flags >> bit & 1 for bit in (7, 6, 5, 4))
+    accepted, waits = get_numbers(data[566:574], 4)
+    entries = []
+    for at in range(574, 766, 6):
+        kind, value, y = data[at], int.from_bytes(data[at + 1:at + 5], "big"), data[at + 5]
+        if kind != LOAD and (kind >= len(KEYWORDS) or value > 65535):
+            return None
+        # "y .. for a setting not read, and shown as 0"
+        entries.append((kind, value, y if kind == LOAD else 0))
+    return State(int.from_bytes(data[:2], "big"), taken, tuple(rest[:116]), tuple(rest[116:128]), *rest[128:131],
+                 tuple(rest[131:]), Settings(limhi, eonly, toferror, junk, hv, hvstep), accepted, waits, tuple(entries),
+                 *get_numbers(data[766:], 4))
+
+
+def given(entry, reach):
+    """Whether a line could give this waiting command."""
+    kind, value, y = entry
+    return load_lawful(value, y, reach) if kind == LOAD else value <= list(HIGHEST.values())[kind]
+
+
+def within_limits(s):
+    # "State limits", in the paper's order; and no "waiting command that no line could give"
+    counts = [*s.boxes, *s.beacons, s.used, s.replaced]
+    waiting = s.entries[:s.waits]
+    return s.taken <= 1000000 and max(counts) <= s.taken and s.used <= SLOTS and s.readings <= 60 \
+        and max(s.totals) <= 65535 * s.readings and s.accepted <= MAX_COMMANDS and s.waits <= s.accepted \
+        and s.next <= s.reach <= TABLE_BYTES and s.settings.limhi <= 0x2C0 \
+        and [kind for kind, _, _ in waiting].count(LOAD) <= 1 and all(given(e, s.reach) for e in waiting)
+
+
+def slot_right(w):
+    # "at close, each slot zero or of box 6 to 116"
+    return w == 0 or 6 <= unpack(w)[6] <= BOXES
+
+
 # ---- the six calls
 
 class Closed(NamedTuple):
@@ -518,7 +602,7 @@ class Closed(NamedTuple):
 
 
 class Processor:
-    """The calls on a fresh processor. Each answers its number, the lowest that applies."""
+    """The calls on a fresh processor, or on a state handed in. Each answers its number, the lowest that applies."""
 
     def __init__(self, tables):
         self.tables = bytearray(tables)
@@ -527,24 +611,60 @@ class Processor:
         self.bad = set()
         self.echo = bytes(ECHO_BYTES)
         self.sum = 0
-        self.settings = Settings()
-        self.frame = self.next = self.reach = 0
-        self.begin()
+        self.hand_in(State())
 
-    def begin(self):
-        # "events, readings and accepted commands are none again"
-        self.events, self.readings, self.waiting, self.accepted = [], [], [], 0
+    def hand_in(self, state, slots=(0,) * SLOTS):
+        """From here on the interval is this state's and these slots', and what comes now."""
+        self.begun, self.slots = state, tuple(slots)
+        self.over = not within_limits(state)
+        self.frame, self.settings = state.frame, state.settings
+        self.next, self.reach = state.next, state.reach
+        self.events, self.readings = [], []
+        self.accepted, self.waits, self.entries = state.accepted, state.waits, list(state.entries)
+
+    def outcomes(self):
+        return [sort_event(self.settings, self.tables, e) for e in self.events]
+
+    def placed(self):
+        """The slots at present, how many are used and how many were replaced."""
+        b = self.begun
+        samples = [(record_of(e, s), s.priority) for e, s in zip(self.events, self.outcomes()) if eligible(self.settings, s)]
+        return place_samples(samples, self.settings.limhi, b.used, b.replaced, self.slots)
+
+    def state(self):
+        """The state at present: what it was and what the calls since then add."""
+        b = self.begun
+        if self.over:
+            return b
+        outcomes = self.outcomes()
+        put = [box for s in outcomes for box in s.boxes]
+        boxes = tuple(n + put.count(k) for k, n in enumerate(b.boxes, 1))
+        beacons = tuple(n + sum(s.beacon == k for s in outcomes) for k, n in enumerate(b.beacons, 1))
+        totals = tuple(n + sum(r[k] for r in self.readings) for k, n in enumerate(b.totals))
+        _, used, replaced = self.placed()
+        return State(self.frame, b.taken + len(self.events), boxes, beacons, used, replaced, b.readings + len(self.readings), totals,
+                     self.settings, self.accepted, self.waits, tuple(self.entries), self.next, self.reach)
+
+    def slots_now(self):
+        return self.slots if self.over else self.placed()[0]
 
     def event(self, e):
+        # "a flag byte over 15 is refused by 2", before any call is made
+        if e.flags > 15:
+            return 2
+        if self.over:
+            return 1
         if not in_range(e):
             return 2
-        if len(self.events) == 1000000:
+        if self.begun.taken + len(self.events) == 1000000:
             return 3
         self.events.append(e)
         return 0
 
     def reading(self, counts):
-        if len(self.readings) == 60:
+        if self.over:
+            return 1
+        if self.begun.readings + len(self.readings) == 60:
             return 3
         self.readings.append(counts)
         return 0
@@ -552,6 +672,8 @@ class Processor:
     def line(self, line):
         """The sum is that of an accepted ask: "it returns those bytes' sum"."""
         self.sum = 0
+        if self.over:
+            return 1
         if not line_bytes_right(line):
             return 4
         if not line:
@@ -585,8 +707,11 @@ class Processor:
     def staged_sum(self):
         return sum(self.staging[:self.reach])
 
+    def waiting(self):
+        return self.entries[:self.waits]
+
     def commit_waits(self):
-        return any(c[0] == "commit" for c in self.waiting)
+        return any(kind == LOAD for kind, _, _ in self.waiting())
 
     def accept(self, command):
         # "Carried out when accepted: load 0 .., loadat a", and an ask; all others wait until close.
@@ -598,9 +723,13 @@ class Processor:
         elif command[0] == "ask":
             self.sum = self.staged_sum()
         else:
-            self.waiting.append(command)
+            entry = (LOAD, *command[1:3]) if command[0] == "commit" else (KEYWORDS.index(command[0]), command[1], 0)
+            self.entries[self.waits] = entry
+            self.waits += 1
 
     def package(self, data):
+        if self.over:
+            return 1
         number = 6 if self.commit_waits() else judge_package(data, self.next)
         if number in (0, 10):
             body, received = split_package(data)
@@ -620,42 +749,35 @@ class Processor:
         self.reach = max(self.reach, self.next)
 
     def close(self, time):
+        """1, or what it returns."""
+        slots = self.slots_now()
+        if self.over or not all(map(slot_right, slots)):
+            return 1
         # "Packets come from the ending interval's settings and tables; then waiting commands run in order"
-        outcomes = [sort_event(self.settings, self.tables, e) for e in self.events]
-        put = [b for s in outcomes for b in s.boxes]
-        boxes = [put.count(b) for b in range(1, BOXES + 1)]
-        beacons = [sum(s.beacon == b for s in outcomes) for b in range(1, BEACONS + 1)]
-        slots = self.slots(outcomes)
-        packets = self.packets(time, boxes, beacons, slots)
-        answer = Closed(self.frame, len(self.events), sum(w != 0 for w in slots), boxes, beacons, packets)
-        for command in self.waiting:
-            self.run(command)
-        self.frame = (self.frame + 1) % 65536
-        self.begin()
+        s = self.state()
+        answer = Closed(s.frame, s.taken, sum(w != 0 for w in slots), s.boxes, s.beacons, self.packets(time, s, slots))
+        for entry in self.waiting():
+            self.run(*entry)
+        # "then counts and slots become zero and the frame number rises by one modulo 65,536"
+        self.hand_in(State(frame=(s.frame + 1) % 65536, settings=self.settings, next=self.next, reach=self.reach))
         return answer
 
     def listing(self, i, time):
-        """14, or packet i: "Listing changes nothing aboard"."""
+        """1, 14, or packet i: "Listing changes nothing aboard"."""
+        if self.over:
+            return 1
         return listing_packet(self.frame, time, i, self.tables) if i < LISTING_PACKETS else 14
 
-    def slots(self, outcomes):
-        """The 704 slots: "A zero slot is empty"."""
-        samples = [(record_of(e, s), s.priority) for e, s in zip(self.events, outcomes) if eligible(self.settings, s)]
-        used, _ = place_samples(samples, self.settings.limhi)
-        return used + [0] * (SLOTS - len(used))
-
-    def packets(self, time, boxes, beacons, slots):
+    def packets(self, time, s, slots):
         # "rate (application number 605), samples 606 to 616, beacon 624"
-        totals = [sum(r[k] for r in self.readings) for k in range(8)]
-        rate = rate_packet(self.frame, time, totals, boxes, self.settings, table_sum(self.tables))
-        samples = [sample_packet(self.frame, time, p, slots[64 * p:64 * p + 64]) for p in range(SAMPLE_PACKETS)]
-        return [rate, *samples, beacon_packet(self.frame, time, beacons)]
+        rate = rate_packet(s.frame, time, s.totals, s.boxes, s.settings, table_sum(self.tables))
+        samples = [sample_packet(s.frame, time, p, slots[64 * p:64 * p + 64]) for p in range(SAMPLE_PACKETS)]
+        return [rate, *samples, beacon_packet(s.frame, time, s.beacons)]
 
-    def run(self, command):
-        keyword, *values = command
-        if keyword == "commit":
-            run_load(self.tables, self.staging, *values[:2], self.reach)
+    def run(self, kind, value, y):
+        if kind == LOAD:
+            run_load(self.tables, self.staging, value, y, self.reach)
             # "Both addresses are 0 once it has run."
             self.next = self.reach = 0
         else:
-            self.settings = replace(self.settings, **{keyword: values[0]})
+            self.settings = replace(self.settings, **{KEYWORDS[kind]: value})

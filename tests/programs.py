@@ -17,7 +17,8 @@ import time
 import tty
 
 from running import BIN, HERE, check, finish, interrupting, told
-from paper import SLOTS, TABLE_BYTES, accepted_echo, echo_buffer, pack, package_echo, refused_echo, sum_error_echo, with_sum
+from paper import SLOTS, STATE_BYTES, TABLE_BYTES, Settings, State, accepted_echo, echo_buffer, pack, package_echo, put_numbers, \
+    refused_echo, state_bytes, sum_error_echo, with_sum
 
 
 
@@ -78,6 +79,19 @@ def gather(body):
 GATHERED = b"\x09"
 
 
+def handed(**fields):
+    """A fresh state but for these fields."""
+    return b"\x14" + state_bytes(State(**fields))
+
+
+SHOW = b"\x15"
+
+
+def slots(*records):
+    """These records in the first slots, and zeros."""
+    return counted(22, put_numbers(records, 4).ljust(4 * SLOTS, b"\0"))
+
+
 # ---- expected text
 
 def echo(text):
@@ -95,6 +109,10 @@ def accepted(frame, sequence, text, total=0):
 
 def refused(number, text):
     return answered(number, refused_echo(text))
+
+
+def shown(**fields):
+    return "state " + state_bytes(State(**fields)).hex()
 
 
 def closed(frame, taken, filled, boxes=(), beacons=()):
@@ -174,13 +192,13 @@ def start_and_end():
         check(f"{program}: no input", run(program, b""), [])
         first = ["event 0"] if program == "replay" else []
         check(f"{program}: silent end", run(program, event()), first)
-        for kind in (0, 12, 49, 255) + ((5, 6, 7, 8, 9, 10, 11) if program == "minute" else ()):
+        for kind in (0, 12, 49, 255) + ((5, 6, 7, 8, 9, 10, 11, 20, 21, 22) if program == "minute" else (19, 23)):
             check(f"{program}: kind {kind}", run(program, event() + bytes([kind]) + bytes(100)), first + ["bad record"])
-        bodies = [(1, 7), (2, 16), (4, 4)] + ([(3, 80)] if program == "minute" else [(7, 6)])
+        bodies = [(1, 7), (2, 16), (4, 4)] + ([(3, 80)] if program == "minute" else [(7, 6), (20, STATE_BYTES)])
         for kind, n in bodies:
             for short in (0, n - 1):
                 check(f"{program}: kind {kind}, {short} bytes", run(program, event() + bytes([kind]) + bytes(short)), first + ["bad record"])
-    for kind in (3, 5, 6, 8, 10, 11):
+    for kind in (3, 5, 6, 8, 10, 11, 22):
         for short in (b"", b"\0", b"\0\5", b"\0\5abcd", b"\xff\xff" + bytes(65534)):
             check(f"replay: kind {kind}, {len(short)} bytes", run("replay", bytes([kind]) + short), ["bad record"])
     check("minute: the example", run("minute", bytes.fromhex("01000500640000000400 00003C")), ["0 1 1 0 0 0"])
@@ -360,7 +378,7 @@ def bad_bytes():
     check("replay: a bad package sent again in two parts", run("replay", package(LOADED, 1) + part),
           [BAD, accepted(0, 0, b"loadat 0"), "package 0 " + echo(package_echo(0, 2)), refused(15, ASK), refused(15, COMMIT),
            "package 0 " + echo(package_echo(2, 1)), accepted(0, 1, ASK, 191), accepted(0, 2, COMMIT)])
-    # Of no bytes: marks nothing. After a reset: the bytes beyond the reach may be bad.
+    # Of no bytes: sets no bit. After a reset: the bytes beyond the reach may be bad.
     stream = package(LOADED, 1) + line(b"load 0") + package(LOADED[:2]) + package(b"", 1) + line(b"ask 7000 0")
     check("replay: bad bytes beyond the reach", run("replay", stream),
           [BAD, accepted(0, 0, b"load 0"), "package 0 " + echo(package_echo(0, 2)), "package 10 " + echo(sum_error_echo(2, 0, 1, 0)),
@@ -534,6 +552,81 @@ def session():
     check("replay: README's load", "".join(line + "\n" for line in picked), [line.strip() for line in shown if line.strip()])
 
 
+# ---- states and slots handed in
+
+# The entries of the state's layout: limhi 0 where nothing waits.
+EMPTY = ((0, 0, 0),)
+
+
+def entries(*first):
+    return (*first, *EMPTY * (32 - len(first)))
+
+
+def states():
+    """What was handed in is shown again; a call changes it as it changes any state."""
+    check("replay: a fresh state", run("replay", SHOW), ["state " + "0" * 1124 + "01f4" + "0" * 420])
+    odd = dict(frame=0x1234, taken=9, boxes=tuple(range(10)) + (0,) * 106, beacons=(9,) * 12, used=7, replaced=8, readings=2, totals=(131070,) * 8,
+               settings=Settings(704, 1, 0, 1, 0, 255), accepted=5, waits=2, entries=entries((5, 255, 0), (255, 0x7000, 2), (4, 65535, 0)), next=3, reach=4)
+    check("replay: every field", run("replay", handed(**odd) + SHOW), ["state", shown(**odd)])
+    beyond = {**odd, "taken": 2**32 - 1, "used": 2**32 - 1, "accepted": 2**32 - 1, "waits": 2**32 - 1, "next": 2**32 - 1, "reach": 0}
+    calls = event(512) + reading(*[1] * 8) + line(b"\t") + package(b"a") + close() + listing(250)
+    check("replay: a state beyond its limits", run("replay", handed(**beyond) + calls + SHOW),
+          ["state", "event 1", "reading 1", answered(1, b""), "package 1 " + echo(b""), "close 1", "listing 1", shown(**beyond)])
+    # Of a record whose flag byte is over 15 no call is made.
+    check("replay: a flag byte over 15", run("replay", handed(**beyond) + event(flags=16) + SHOW), ["state", "event 2", shown(**beyond)])
+    # Other flags are ignored, and y of a setting.
+    data = bytearray(state_bytes(State()))
+    data[564], data[579] = 15, 99
+    check("replay: bits of no use", run("replay", b"\x14" + bytes(data) + SHOW), ["state", shown()])
+    stream = handed(frame=65535, accepted=1, entries=entries((255, 9, 9), (1, 9, 0))) + line(b"hvstep 7") + SHOW + close() + SHOW
+    waits = dict(frame=65535, accepted=2, waits=1, entries=entries((5, 7, 0), (1, 9, 0)))
+    check("replay: a command waits, and a close empties the entries", without_packets(run("replay", stream)),
+          ["state", accepted(65535, 1, b"hvstep 7"), shown(**waits)] + closed(65535, 0, 0) + [shown(settings=Settings(hvstep=7))])
+
+
+def no_states():
+    """A kind that is none, or a setting's value over 65,535, is a bad record; so are slots of another length."""
+    for at, value in ((574, 6), (574, 254), (574 + 6 * 31, 7), (575, 1), (576, 1), (575 + 6 * 31, 255)):
+        data = changed(state_bytes(State()), at, value)
+        check(f"replay: byte {at} of a state is {value}", run("replay", event() + b"\x14" + data + SHOW), ["event 0", "bad record"])
+    for n in (0, 1, 2812, 2815, 2817, 2820, 65535):
+        check(f"replay: slots in {n} bytes", run("replay", counted(22, bytes(n)) + SHOW), ["bad record"])
+
+
+# A state, and the number of an event's call.
+LIMITS = [
+    (dict(taken=999999), 0), (dict(taken=1000000), 3), (dict(taken=1000001), 1),
+    (dict(taken=5, boxes=(5,) * 116), 0), (dict(taken=5, boxes=(0,) * 115 + (6,)), 1),
+    (dict(taken=5, beacons=(5,) * 12), 0), (dict(taken=5, beacons=(0,) * 11 + (6,)), 1),
+    (dict(taken=5, used=5), 0), (dict(taken=5, used=6), 1), (dict(taken=999, used=704), 0), (dict(taken=999, used=705), 1),
+    (dict(taken=5, replaced=5), 0), (dict(taken=5, replaced=6), 1),
+    (dict(readings=60), 0), (dict(readings=61), 1), (dict(readings=1, totals=(65535,) * 8), 0), (dict(readings=1, totals=(0,) * 7 + (65536,)), 1),
+    (dict(accepted=32), 0), (dict(accepted=33), 1), (dict(accepted=32, waits=32), 0), (dict(accepted=31, waits=32), 1),
+    (dict(next=9, reach=9), 0), (dict(next=10, reach=9), 1), (dict(reach=62985), 0), (dict(reach=62986), 1),
+    (dict(settings=Settings(704)), 0), (dict(settings=Settings(705)), 1),
+] + [(dict(accepted=1, waits=waits, entries=entries((kind, most + more, 0))), waits * more)
+     for kind, most in enumerate((704, 1, 1, 1, 1, 255)) for more in (0, 1) for waits in (0, 1)] + [
+    (dict(accepted=1, waits=1, reach=reach, entries=entries((255, a, y))), number)
+    for a, y, reach, number in ((0x7000, 0, 1, 0), (0x7000, 0, 0, 1), (0x6FFF, 0, 1, 1), (0xC202, 0, 3, 0), (0xC202, 0, 4, 1), (0x7000, 3, 1, 1))] + [
+    (dict(accepted=2, waits=waits, reach=3, entries=entries((255, 0x7000, 0), (255, 0xC202, 0))), number) for waits, number in ((1, 0), (2, 1))]
+
+
+def limits():
+    """Each limit of document 01, met and passed."""
+    for fields, number in LIMITS:
+        check(f"replay: an event, {fields}", run("replay", handed(**fields) + event(flags=0)), ["state", f"event {number}"])
+
+
+def handed_slots():
+    """A close counts the slots that are not zero, and is refused if one is of no box from 6 to 116."""
+    right = [record(1, 1, 0, 6, 0), record(511, 2047, 1, 116, 1)]
+    output = run("replay", slots(*right) + close() + close())
+    check("replay: two slots", without_packets(output), ["slots"] + closed(0, 0, 2) + closed(1, 0, 0))
+    check("replay: their packet", output.splitlines()[5][26:42] + "\n", ["".join(f"{w:08x}" for w in right)])
+    for wrong in (1, record(1, 1, 0, 5, 1), record(1, 1, 0, 117, 0), 0xFFFFFFFF):
+        check(f"replay: slot {wrong:08x}", run("replay", slots(0, wrong) + event() + close()), ["slots", "event 0", "close 1"])
+
+
 # ---- many closes, and input in pieces
 
 def frames():
@@ -650,7 +743,7 @@ def interrupted():
             check(f"{program}: interrupted, no tables.bin", printed + line, ["refused 1"])
 
 
-for case in (start_and_end, ranges, million, columns, samples, readings, commands, zero_bytes, long_bodies, loads, asks, bad_bytes, packets, editions, conversions, listings, gathers, example, session, frames, pieces,
+for case in (start_and_end, ranges, million, columns, samples, readings, commands, zero_bytes, long_bodies, loads, asks, bad_bytes, packets, editions, conversions, listings, gathers, states, no_states, limits, handed_slots, example, session, frames, pieces,
              pieces_of_minute, held_open, failed_reads, failed_writes, interrupted):
     case()
 finish()

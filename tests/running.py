@@ -14,7 +14,7 @@ counts = {"passed": 0, "failed": 0}
 
 def told(program, what, number):
     """The line on standard error of a program that could not do this."""
-    return f"{BIN}/{program}: cannot {what}: errno {number}"
+    return f"{BIN}/{program}: cannot {what}: {os.strerror(number)}"
 
 
 def check(name, got, want):

@@ -1,11 +1,11 @@
 """Works out the stored outputs of the programs, crates/*/stdout, from documents 01 and 02 and compares them;
-that of limit_cases comes from the second implementation (compare.sh).
+those of limit_cases and ground_cases come from the second implementation (compare.sh).
 
     python3 tests/stored.py             prints what differs; the last line is 'N passed, M failed'
     python3 tests/stored.py --write     writes them anew
 
 No program runs here. The rules are those of paper.py, which is held to "Numbers at the edges" first. The inputs:
-- replay: its stored tables.bin and stdin, which `reference/target/release/streams 2992 400 FOLDER` writes;
+- replay: its stored tables.bin and stdin, which `reference/target/release/streams 964 400 FOLDER --states` writes;
 - minute: the example of document 01, which is its stored stdin;
 - command_cases: command_inputs.py, which its stored stdin is compared with too;
 - convert: archive.py, which its stored stdin is compared with too;
@@ -35,13 +35,13 @@ def joined(*values):
 
 # ---- replay: the records and answers of the program that replays a list of calls
 
-BODY_BYTES = {1: 7, 2: 16, 4: 4, 7: 6, 9: 0}
-COUNTED = (3, 5, 6, 8, 10, 11)
+BODY_BYTES = {1: 7, 2: 16, 4: 4, 7: 6, 9: 0, 20: paper.STATE_BYTES, 21: 0}
+COUNTED = (3, 5, 6, 8, 10, 11, 22)
 CONVERTERS = {10: ("second", paper.CONVERTED), 11: ("first", paper.FIRST)}
 
 
 def replay_records(stream):
-    """Each record as (kind, body); (None, b"") for a bad kind or a short body, which is the last."""
+    """Each record as (kind, body); (None, b"") for a bad kind, or a short or a wrong body, which is the last."""
     at = 0
     while at < len(stream):
         kind, at = stream[at], at + 1
@@ -50,11 +50,18 @@ def replay_records(stream):
             # The length, 16 bits, stands before the bytes.
             size = int.from_bytes(stream[at:at + 2], "big") if at + 2 <= len(stream) else None
             at += 2
-        if size is None or at + size > len(stream):
+        if size is None or at + size > len(stream) or not body_right(kind, stream[at:at + size]):
             yield None, b""
             return
         yield kind, stream[at:at + size]
         at += size
+
+
+def body_right(kind, body):
+    """The bytes of a state are one, and slots come for all of them."""
+    if kind == 20:
+        return paper.state_of(body) is not None
+    return kind != 22 or len(body) == 4 * paper.SLOTS
 
 
 def event_of(body):
@@ -63,6 +70,8 @@ def event_of(body):
 
 
 def close_lines(c):
+    if c == 1:
+        return ["close 1"]
     head = [joined("close", 0, c.frame, c.taken, c.filled), joined("boxes", *c.boxes), joined("beacons", *c.beacons)]
     return head + ["out " + p.hex() for p in c.packets]
 
@@ -106,10 +115,21 @@ def ground_lines(gatherer, kind, body):
     return lines
 
 
+def handed_lines(processor, kind, body):
+    """A state or slots handed in, or the state shown."""
+    if kind == 21:
+        return [joined("state", paper.state_bytes(processor.state()).hex())]
+    state = paper.state_of(body) if kind == 20 else processor.state()
+    processor.hand_in(state, get_numbers(body, 4) if kind == 22 else processor.slots_now())
+    return ["state" if kind == 20 else "slots"]
+
+
 def answer_lines(processor, gatherer, kind, body):
     """One call, and what replay prints of its answer."""
     if kind in (6, 8, 9, *CONVERTERS):
         return ground_lines(gatherer, kind, body)
+    if kind in (20, 21, 22):
+        return handed_lines(processor, kind, body)
     if kind == 1:
         return [joined("event", processor.event(event_of(body)))]
     if kind == 2:
@@ -200,7 +220,7 @@ def event_line(tables, case):
 
 def slots_line(limhi):
     """How many slots are used and replaced, the first five slots and the last four."""
-    slots, replaced = paper.place_samples([(i + 1, int(i % 2 == 0)) for i in range(PLACED)], limhi)
+    slots, _, replaced = paper.place_samples([(i + 1, int(i % 2 == 0)) for i in range(PLACED)], limhi)
     return joined("slots", len(slots), replaced, *slots[:5], *slots[700:])
 
 

@@ -3,6 +3,9 @@
 use std::io::{Error, ErrorKind, Read, Result};
 
 use crate::commands::LINE_BYTES;
+use crate::image;
+use crate::processor::Processor;
+use crate::samples::SLOTS;
 use crate::sorting::Event;
 
 #[derive(Clone, Copy, PartialEq, Eq)]
@@ -24,10 +27,14 @@ pub enum Call {
     Gathered,
     ToSecond(Vec<u8>),
     ToFirst(Vec<u8>),
+    State(Box<Processor>),
+    Show,
+    /// All slots, four bytes a word.
+    Slots(Vec<u8>),
 }
 
 /// Reads one record: none where the input stops before a kind byte, an error for an
-/// unknown kind or a short body.
+/// unknown kind, a short body or a wrong one.
 pub fn read(input: &mut impl Read, form: Form) -> Result<Option<Call>> {
     let Ok([kind]) = bytes(input) else {
         return Ok(None);
@@ -47,9 +54,26 @@ pub fn read(input: &mut impl Read, form: Form) -> Result<Option<Call>> {
         (9, Form::Replay) => Call::Gathered,
         (10, Form::Replay) => Call::ToSecond(counted(input)?),
         (11, Form::Replay) => Call::ToFirst(counted(input)?),
-        _ => return Err(Error::from(ErrorKind::InvalidData)),
+        (20, Form::Replay) => Call::State(Box::new(image::state(&bytes(input)?).ok_or_else(bad)?)),
+        (21, Form::Replay) => Call::Show,
+        (22, Form::Replay) => Call::Slots(all_slots(counted(input)?)?),
+        _ => return Err(bad()),
     };
     Ok(Some(call))
+}
+
+/// An unknown kind, bytes that are no state, or slots of another length.
+fn bad() -> Error {
+    Error::from(ErrorKind::InvalidData)
+}
+
+/// As many bytes as the slots have.
+fn all_slots(body: Vec<u8>) -> Result<Vec<u8>> {
+    if body.len() == 4 * SLOTS {
+        Ok(body)
+    } else {
+        Err(bad())
+    }
 }
 
 fn bytes<const N: usize>(input: &mut impl Read) -> Result<[u8; N]> {
@@ -115,6 +139,12 @@ pub fn write(call: &Call, form: Form, stream: &mut Vec<u8>) -> bool {
         (Call::Gathered, _) => stream.push(9),
         (Call::ToSecond(body), _) => write_counted(10, body, stream),
         (Call::ToFirst(body), _) => write_counted(11, body, stream),
+        (Call::State(state), _) => {
+            stream.push(20);
+            stream.extend(image::image(state));
+        }
+        (Call::Show, _) => stream.push(21),
+        (Call::Slots(body), _) => write_counted(22, body, stream),
     }
     true
 }

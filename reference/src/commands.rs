@@ -51,6 +51,67 @@ impl Command {
     }
 }
 
+/// The settings that a command changes.
+#[derive(Clone, Copy, Debug, PartialEq, Eq)]
+pub enum Keyword {
+    Limhi,
+    Eonly,
+    Toferror,
+    Junk,
+    Hv,
+    Hvstep,
+}
+
+impl Keyword {
+    pub const ALL: [Keyword; 6] =
+        [Keyword::Limhi, Keyword::Eonly, Keyword::Toferror, Keyword::Junk, Keyword::Hv, Keyword::Hvstep];
+
+    fn word(self) -> &'static str {
+        ["limhi", "eonly", "toferror", "junk", "hv", "hvstep"][self as usize]
+    }
+}
+
+/// A waiting command as a state holds it, whether a line could give it or not.
+#[derive(Clone, Copy, Debug, PartialEq, Eq)]
+pub enum Waiting {
+    Set(Keyword, u16),
+    /// a and y of a commit; its sum plays no part while it waits.
+    Load(u32, u8),
+}
+
+impl Waiting {
+    /// What stands where no command waits.
+    pub const EMPTY: Waiting = Waiting::Set(Keyword::Limhi, 0);
+
+    /// What a state keeps of the command; none of one that is carried out when accepted.
+    pub fn of(command: Command) -> Option<Waiting> {
+        Some(match command {
+            Command::Limhi(value) => Waiting::Set(Keyword::Limhi, value),
+            Command::Eonly(value) => Waiting::Set(Keyword::Eonly, value.into()),
+            Command::Toferror(value) => Waiting::Set(Keyword::Toferror, value.into()),
+            Command::Junk(value) => Waiting::Set(Keyword::Junk, value.into()),
+            Command::Hv(value) => Waiting::Set(Keyword::Hv, value.into()),
+            Command::Hvstep(value) => Waiting::Set(Keyword::Hvstep, value.into()),
+            Command::Commit(load, _) => Waiting::Load(load.address as u32, load.y()),
+            Command::LoadZero | Command::LoadAt(_) | Command::Ask(_) => return None,
+        })
+    }
+
+    /// The command that a line gives at this reach, or none "that no line could give". A commit
+    /// is judged by a, y and reach alone.
+    pub fn given(&self, reach: usize) -> Option<Command> {
+        let line = match self {
+            Waiting::Set(keyword, value) => format!("{} {value:x}", keyword.word()),
+            Waiting::Load(a, y) => format!("commit {a:x} {y:x} 0"),
+        };
+        command(line.as_bytes(), reach)
+    }
+
+    pub fn is_load(&self) -> bool {
+        matches!(self, Waiting::Load(..))
+    }
+}
+
 /// Up to 80 bytes, each 32 to 126.
 pub fn printable(line: &[u8]) -> bool {
     line.len() <= LINE_BYTES && line.iter().all(|byte| (32..=126).contains(byte))

@@ -2,8 +2,8 @@
 //! limits are judged each time. For the benchmark's second row.
 
 use crate::causes::{Number, BUFFER};
-use crate::commands::Command;
-use crate::loads::STAGING_BYTES;
+use crate::commands::{Keyword, Waiting};
+use crate::loads::{Load, STAGING_BYTES};
 use crate::processor::*;
 use crate::samples::SLOTS;
 use crate::sorting::Event;
@@ -33,15 +33,14 @@ fn at_most(bound: u32, numbers: &[u32]) -> bool {
 
 /// Each waiting command is one that a line gives, and at most one is a commit.
 fn waiting_lawful(p: &Processor) -> bool {
-    let lawful = |command: &Option<Command>| match command {
-        Some(Command::Limhi(value)) => *value as usize <= SLOTS,
-        Some(Command::Commit(load, _)) => load.lawful(p.addresses.reach),
-        Some(Command::LoadZero | Command::LoadAt(_) | Command::Ask(_)) | None => false,
-        Some(_) => true,
+    let lawful = |waiting: &Waiting| match *waiting {
+        Waiting::Set(Keyword::Limhi, value) => value as usize <= SLOTS,
+        Waiting::Set(Keyword::Hvstep, value) => value <= 255,
+        Waiting::Set(_, value) => value <= 1,
+        Waiting::Load(a, y) => Load::asked(a as usize, y as usize, p.addresses.reach).is_some(),
     };
     let waiting = &p.waiting[..p.waits];
-    let commits = waiting.iter().filter(|c| matches!(c, Some(Command::Commit(..)))).count();
-    waiting.iter().all(lawful) && commits <= 1
+    waiting.iter().all(lawful) && waiting.iter().filter(|one| one.is_load()).count() <= 1
 }
 
 #[inline(never)]
@@ -58,7 +57,7 @@ mod tests {
     #[test]
     fn a_waiting_command_takes_three_words_at_most() {
         // 32 of them are handed on by value at every event.
-        assert!(size_of::<Option<Command>>() <= 3 * size_of::<usize>());
+        assert!(size_of::<Waiting>() <= 3 * size_of::<usize>());
     }
 
     #[test]

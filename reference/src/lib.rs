@@ -21,6 +21,7 @@ pub mod reader;
 pub mod commands;
 pub mod loads;
 
+pub mod image;
 pub mod judged;
 pub mod limits;
 pub mod processor;

@@ -11,31 +11,31 @@ pub const STAGING_BYTES: usize = 62_985;
 pub type Staging = [u8; STAGING_BYTES];
 
 /// One bit for each staged byte.
-pub const MARK_BYTES: usize = STAGING_BYTES.div_ceil(8);
+pub const BITMAP_BYTES: usize = STAGING_BYTES.div_ceil(8);
 
 /// Bit i mod 8 of byte i / 8, the least significant first, is set where the package that wrote
 /// staged byte i last had a wrong sum.
-pub type Marks = [u8; MARK_BYTES];
+pub type Bitmap = [u8; BITMAP_BYTES];
 
-/// Sets the marks of these staged bytes, or clears them.
-fn mark(marks: &mut Marks, staged: Range<usize>, bad: bool) {
+/// Sets the bits of these staged bytes, or clears them.
+fn put_bits(bitmap: &mut Bitmap, staged: Range<usize>, bad: bool) {
     for i in staged {
         let bit = 1 << (i % 8);
         if bad {
-            marks[i / 8] |= bit;
+            bitmap[i / 8] |= bit;
         } else {
-            marks[i / 8] &= !bit;
+            bitmap[i / 8] &= !bit;
         }
     }
 }
 
-pub fn is_bad(marks: &Marks, i: usize) -> bool {
-    marks[i / 8] >> (i % 8) & 1 == 1
+pub fn is_bad(bitmap: &Bitmap, i: usize) -> bool {
+    bitmap[i / 8] >> (i % 8) & 1 == 1
 }
 
-/// Whether a staged byte below the reach is bad. Marks from the reach on mean nothing.
-pub fn any_bad(marks: &Marks, reach: usize) -> bool {
-    (0..reach).any(|i| is_bad(marks, i))
+/// Whether a staged byte below the reach is bad. Bits from the reach on mean nothing.
+pub fn any_bad(bitmap: &Bitmap, reach: usize) -> bool {
+    (0..reach).any(|i| is_bad(bitmap, i))
 }
 
 /// The sum of the staged bytes below the reach: less than 2^24, since 62,985 x 255 is.
@@ -62,12 +62,12 @@ impl Addresses {
     pub const ZERO: Addresses = Addresses { next: 0, reach: 0 };
 
     /// Places a package (16-bit N, N - 2 bytes, their sum), whether its sum is right or not, and
-    /// marks its bytes accordingly.
+    /// sets or clears their bits.
     pub fn place(
         &mut self,
         package: &[u8],
         staging: &mut Staging,
-        marks: &mut Marks,
+        bitmap: &mut Bitmap,
     ) -> Result<Placed, Number> {
         let (n, rest) = package.split_first_chunk::<2>().ok_or(PACKAGE)?;
         if u16::from_be_bytes(*n) as usize != rest.len() {
@@ -84,7 +84,7 @@ impl Addresses {
         self.reach = self.reach.max(end);
         let received = u16::from_be_bytes(*sum);
         let computed = bytes.iter().fold(0u16, |sum, byte| sum.wrapping_add(*byte as u16));
-        mark(marks, address..end, received != computed);
+        put_bits(bitmap, address..end, received != computed);
         Ok(Placed { address, bytes: bytes.len(), received, computed })
     }
 }
@@ -100,6 +100,11 @@ impl Load {
     /// y 0 is three bytes a word, y 1 one, y 2 two.
     pub fn bytes_a_word(y: usize) -> Option<usize> {
         [3, 1, 2].get(y).copied()
+    }
+
+    /// The y of so many bytes a word.
+    pub fn y(&self) -> u8 {
+        [0, 1, 2, 0][self.bytes_a_word]
     }
 
     /// The load of arguments a and y; none if y is none of these or it is not lawful.
@@ -130,7 +135,7 @@ mod tests {
     use super::*;
 
     fn placed(addresses: &mut Addresses, staging: &mut Staging, package: &[u8]) -> Number {
-        match addresses.place(package, staging, &mut [0; MARK_BYTES]) {
+        match addresses.place(package, staging, &mut [0; BITMAP_BYTES]) {
             Ok(placed) => assert_eq!(placed.received, placed.computed),
             Err(number) => return number,
         }
@@ -186,15 +191,15 @@ mod tests {
     /// or a wrong sum; then says of bytes 0 to 19 which are bad.
     fn bad_bytes(packages: &[(usize, usize, bool)]) -> String {
         let (mut addresses, mut staging) = (Addresses::ZERO, [0; STAGING_BYTES]);
-        let mut marks = [0; MARK_BYTES];
+        let mut bitmap = [0; BITMAP_BYTES];
         for (next, bytes, right) in packages {
             addresses.next = *next;
             let n = (*bytes as u16 + 2).to_be_bytes();
             let sum = [0, !right as u8];
             let package = [&n[..], &vec![0; *bytes], &sum].concat();
-            assert!(addresses.place(&package, &mut staging, &mut marks).is_ok());
+            assert!(addresses.place(&package, &mut staging, &mut bitmap).is_ok());
         }
-        (0..20).map(|i| if is_bad(&marks, i) { 'x' } else { '.' }).collect()
+        (0..20).map(|i| if is_bad(&bitmap, i) { 'x' } else { '.' }).collect()
     }
 
     #[test]
@@ -208,23 +213,23 @@ mod tests {
         assert_eq!(bad_bytes(&[(3, 10, false), (7, 2, true)]), "...xxxx..xxxx.......");
         assert_eq!(bad_bytes(&[(3, 10, false), (3, 10, true)]), "....................");
         assert_eq!(bad_bytes(&[(0, 20, true), (8, 1, false)]), "........x...........");
-        // One of no bytes marks nothing.
+        // One of no bytes sets no bit.
         assert_eq!(bad_bytes(&[(5, 0, false)]), "....................");
     }
 
     #[test]
-    fn marks_are_bits_the_least_significant_first() {
+    fn bits_the_least_significant_first() {
         // 62,985 = 8 x 7,873 + 1.
-        assert_eq!(MARK_BYTES, 7_874);
-        let mut marks = [0; MARK_BYTES];
-        mark(&mut marks, 3..10, true);
-        assert_eq!(marks[..3], [0b1111_1000, 0b11, 0]);
-        mark(&mut marks, 62_984..62_985, true);
-        assert_eq!(marks[7_872..], [0, 1]);
-        mark(&mut marks, 0..9, false);
-        assert_eq!(marks[..3], [0, 0b10, 0]);
+        assert_eq!(BITMAP_BYTES, 7_874);
+        let mut bitmap = [0; BITMAP_BYTES];
+        put_bits(&mut bitmap, 3..10, true);
+        assert_eq!(bitmap[..3], [0b1111_1000, 0b11, 0]);
+        put_bits(&mut bitmap, 62_984..62_985, true);
+        assert_eq!(bitmap[7_872..], [0, 1]);
+        put_bits(&mut bitmap, 0..9, false);
+        assert_eq!(bitmap[..3], [0, 0b10, 0]);
         for (reach, bad) in [(0, false), (9, false), (10, true), (62_985, true)] {
-            assert_eq!(any_bad(&marks, reach), bad, "{reach}");
+            assert_eq!(any_bad(&bitmap, reach), bad, "{reach}");
         }
     }
 

@@ -14,7 +14,7 @@ pub const MOST_EVENTS: u32 = 1_000_000;
 pub const MOST_READINGS: u32 = 60;
 pub const MOST_COMMANDS: usize = 32;
 
-#[derive(Clone, Copy, Debug)]
+#[derive(Clone, Copy, Debug, PartialEq, Eq)]
 pub struct Processor {
     pub frame: u16,
     pub taken: u32,
@@ -25,10 +25,10 @@ pub struct Processor {
     pub settings: Settings,
     /// Commands accepted in this frame.
     pub accepted: usize,
-    /// Those that wait until close, in order.
-    pub waiting: [Option<Command>; MOST_COMMANDS],
+    /// The first `waits` of them wait until close, in order. Anyone may hand a state in, so all
+    /// of this can be any numbers; `limits` judges them.
+    pub waiting: [Waiting; MOST_COMMANDS],
     pub waits: usize,
-    pub commit_waits: bool,
     pub addresses: Addresses,
 }
 
@@ -49,6 +49,15 @@ pub struct Closed {
     pub filled: usize,
 }
 
+impl Closed {
+    pub const REFUSED: Closed = Closed { number: BUFFER, taken: 0, counts: Counts::ZERO, filled: 0 };
+}
+
+/// "at close, each slot zero or of box 6 to 116": the box is in bits 7 to 1.
+pub fn slot_within(slot: u32) -> bool {
+    slot == 0 || (6..=116).contains(&(slot >> 1 & 0x7F))
+}
+
 impl Processor {
     /// "Fresh".
     pub const FRESH: Processor = Processor {
@@ -60,9 +69,8 @@ impl Processor {
         totals: [0; 8],
         settings: Settings::FRESH,
         accepted: 0,
-        waiting: [None; MOST_COMMANDS],
+        waiting: [Waiting::EMPTY; MOST_COMMANDS],
         waits: 0,
-        commit_waits: false,
         addresses: Addresses::ZERO,
     };
 
@@ -104,10 +112,10 @@ impl Processor {
     }
 
     /// One command line.
-    pub fn line(&mut self, line: &[u8], staging: &[u8], marks: &[u8], echo: &mut [u8]) -> LineAnswer {
+    pub fn line(&mut self, line: &[u8], staging: &[u8], bitmap: &[u8], echo: &mut [u8]) -> LineAnswer {
         let alone = |number| LineAnswer { number, sum: 0 };
-        let (Ok(staging), Ok(marks), Ok(echo)) =
-            (<&Staging>::try_from(staging), <&Marks>::try_from(marks), <&mut Echo>::try_from(echo))
+        let (Ok(staging), Ok(bitmap), Ok(echo)) =
+            (<&Staging>::try_from(staging), <&Bitmap>::try_from(bitmap), <&mut Echo>::try_from(echo))
         else {
             return alone(BUFFER);
         };
@@ -118,7 +126,7 @@ impl Processor {
             echo_empty(echo);
             return alone(DONE);
         }
-        match self.judge(line, staging, marks) {
+        match self.judge(line, staging, bitmap) {
             Ok(command) => {
                 echo_accepted(echo, self.frame, self.accepted, line);
                 LineAnswer { number: DONE, sum: self.accept(command, staging) }
@@ -130,17 +138,22 @@ impl Processor {
         }
     }
 
+    /// Whether one of those that wait is a commit.
+    pub fn commit_waits(&self) -> bool {
+        self.waiting.iter().take(self.waits).any(Waiting::is_load)
+    }
+
     /// The command of a line that is not empty, or 5, 6, 7, 15 or 16.
-    fn judge(&self, line: &[u8], staging: &Staging, marks: &Marks) -> Result<Command, Number> {
+    fn judge(&self, line: &[u8], staging: &Staging, bitmap: &Bitmap) -> Result<Command, Number> {
         let reach = self.addresses.reach;
         let command = command(line, reach).ok_or(COMMAND)?;
-        if self.commit_waits && command.is_about_staging() {
+        if self.commit_waits() && command.is_about_staging() {
             return Err(COMMIT_WAITS);
         }
         if self.accepted >= MOST_COMMANDS {
             return Err(COMMANDS_FULL);
         }
-        if matches!(command, Command::Ask(_) | Command::Commit(..)) && any_bad(marks, reach) {
+        if matches!(command, Command::Ask(_) | Command::Commit(..)) && any_bad(bitmap, reach) {
             return Err(STAGED_BAD);
         }
         match command {
@@ -157,9 +170,10 @@ impl Processor {
             Command::LoadAt(address) => self.addresses.next = address,
             Command::Ask(_) => return staged_sum(staging, self.addresses.reach),
             _ => {
-                self.waiting[self.waits] = Some(command);
-                self.waits += 1;
-                self.commit_waits |= matches!(command, Command::Commit(..));
+                if let Some(waiting) = Waiting::of(command) {
+                    self.waiting[self.waits] = waiting;
+                    self.waits += 1;
+                }
             }
         }
         0
@@ -170,20 +184,20 @@ impl Processor {
         &mut self,
         package: &[u8],
         staging: &mut [u8],
-        marks: &mut [u8],
+        bitmap: &mut [u8],
         echo: &mut [u8],
     ) -> Number {
-        let (Ok(staging), Ok(marks), Ok(echo)) = (
+        let (Ok(staging), Ok(bitmap), Ok(echo)) = (
             <&mut Staging>::try_from(staging),
-            <&mut Marks>::try_from(marks),
+            <&mut Bitmap>::try_from(bitmap),
             <&mut Echo>::try_from(echo),
         ) else {
             return BUFFER;
         };
-        if self.commit_waits {
+        if self.commit_waits() {
             return COMMIT_WAITS;
         }
-        match self.addresses.place(package, staging, marks) {
+        match self.addresses.place(package, staging, bitmap) {
             Ok(p) => {
                 echo_package(echo, p.address, p.bytes, p.received, p.computed);
                 if p.received == p.computed {
@@ -212,8 +226,11 @@ impl Processor {
             <&mut Slots>::try_from(slots),
             <&mut [u8; OUTPUT_BYTES]>::try_from(output),
         ) else {
-            return Closed { number: BUFFER, taken: 0, counts: Counts::ZERO, filled: 0 };
+            return Closed::REFUSED;
         };
+        if !slots.iter().all(|slot| slot_within(*slot)) {
+            return Closed::REFUSED;
+        }
         let closed = Closed {
             number: DONE,
             taken: self.taken,
@@ -221,8 +238,8 @@ impl Processor {
             filled: slots.iter().filter(|slot| **slot != 0).count(),
         };
         self.write_packets(time, tables, slots, output);
-        for i in 0..self.waits {
-            if let Some(command) = self.waiting[i] {
+        for waiting in self.waiting.into_iter().take(self.waits) {
+            if let Some(command) = waiting.given(self.addresses.reach) {
                 self.run(command, tables, staging);
             }
         }
@@ -483,7 +500,7 @@ mod tests {
         assert_eq!((echo(&station), station.sum), ("0001 ask 7000 1\r\nSIT> ".into(), 512));
         let counted = Processor { accepted: 2, ..before.processor };
         assert_eq!(format!("{:?}", station.processor), format!("{counted:?}"));
-        assert_eq!((&station.staging, &station.marks), (&before.staging, &before.marks));
+        assert_eq!((&station.staging, &station.bitmap), (&before.staging, &before.bitmap));
         // Every other line answers with the sum 0.
         for line in ["", "hv 1", "commit c200 0 200", "ask c200 0"] {
             station.line(line.as_bytes());
@@ -544,20 +561,20 @@ mod tests {
     }
 
     #[test]
-    fn marks_from_the_reach_on_mean_nothing() {
+    fn bits_from_the_reach_on_mean_nothing() {
         let mut station = station([8, 0, 0]);
-        station.marks.fill(255);
+        station.bitmap.fill(255);
         assert_eq!(package(&mut station, &[7, 7]), DONE);
-        assert_eq!(station.marks[..2], [0b1111_1100, 255]);
+        assert_eq!(station.bitmap[..2], [0b1111_1100, 255]);
         assert_eq!(station.line(b"ask 7000 0"), DONE);
         assert_eq!(station.sum, 14);
-        // After a reset the bytes below the reach are written again, whatever marks are left.
+        // After a reset the bytes below the reach are written again, whatever bits are left.
         assert_eq!(station.package(&[0, 4, 1, 1, 0, 1]), PACKAGE_SUM);
         assert_eq!(station.line(b"ask 7000 0"), STAGED_BAD);
         assert_eq!(station.line(b"load 0"), DONE);
         assert_eq!(station.line(b"ask 7000 0"), COMMAND);
         assert_eq!(package(&mut station, &[1, 2, 3]), DONE);
-        assert_eq!(station.marks[..2], [0b1111_1000, 255]);
+        assert_eq!(station.bitmap[..2], [0b1111_1000, 255]);
         assert_eq!(station.line(b"commit 7000 0 6"), DONE);
     }
 
@@ -568,18 +585,29 @@ mod tests {
         assert_eq!(echo(&station), "binary A:00000000 N:00000002 ckserr 00000004 00000003\r\nSIT> ");
         assert_eq!(station.processor.addresses, Addresses { next: 2, reach: 2 });
         assert_eq!(station.staging[..2], [1, 2]);
-        assert_eq!(station.marks[0], 0b11);
+        assert_eq!(station.bitmap[0], 0b11);
         assert_eq!(station.line(b"loadat 1"), DONE);
         assert_eq!(package(&mut station, &[9]), DONE);
         assert_eq!(echo(&station), "binary A:00000001 N:00000001 OK\r\nSIT> ");
-        assert_eq!(station.marks[0], 0b01);
+        assert_eq!(station.bitmap[0], 0b01);
         assert_eq!(station.package(&[0, 2, 0, 1]), PACKAGE_SUM); // of no bytes
-        assert_eq!(station.marks[0], 0b01);
+        assert_eq!(station.bitmap[0], 0b01);
         assert_eq!(station.line(b"load 0"), DONE);
         assert_eq!(station.processor.addresses, Addresses::ZERO);
         assert_eq!(station.package(&[0, 3, 1]), PACKAGE);
         assert_eq!(echo(&station), "0001 load 0\r\nSIT> ");
-        assert_eq!(station.marks[0], 0b01);
+        assert_eq!(station.bitmap[0], 0b01);
+    }
+
+    #[test]
+    fn slots_at_a_close() {
+        let boxes = [5, 6, 116, 117, 127].map(|b| slot_within(0xFFFF_FF01 | b << 1));
+        assert_eq!(boxes, [false, true, true, false, false]);
+        assert!(slot_within(0) && !slot_within(1));
+        let mut station = station([8, 0, 0]);
+        station.slots[703] = 5 << 1;
+        assert_eq!((station.event(&STOP), station.close(0).number), (DONE, BUFFER));
+        assert_eq!((station.processor.taken, station.slots[703]), (1, 10));
     }
 
     #[test]
@@ -615,12 +643,12 @@ mod tests {
         assert_eq!(p.event(&STOP, &s.tables[1..], &mut s.slots), BUFFER);
         assert_eq!(p.event(&STOP, &s.tables, &mut s.slots[1..]), BUFFER);
         let refused = LineAnswer { number: BUFFER, sum: 0 };
-        assert_eq!(p.line(&[0; 81], &s.staging, &s.marks, &mut s.echo[1..]), refused);
-        assert_eq!(p.line(&[0; 81], &s.staging, &s.marks[1..], &mut s.echo), refused);
-        assert_eq!(p.line(&[0; 81], &s.staging[1..], &s.marks, &mut s.echo), refused);
-        assert_eq!(p.package(&[], &mut s.staging[1..], &mut s.marks, &mut s.echo), BUFFER);
-        assert_eq!(p.package(&[], &mut s.staging, &mut s.marks[1..], &mut s.echo), BUFFER);
-        assert_eq!(p.package(&[], &mut s.staging, &mut s.marks, &mut s.echo[1..]), BUFFER);
+        assert_eq!(p.line(&[0; 81], &s.staging, &s.bitmap, &mut s.echo[1..]), refused);
+        assert_eq!(p.line(&[0; 81], &s.staging, &s.bitmap[1..], &mut s.echo), refused);
+        assert_eq!(p.line(&[0; 81], &s.staging[1..], &s.bitmap, &mut s.echo), refused);
+        assert_eq!(p.package(&[], &mut s.staging[1..], &mut s.bitmap, &mut s.echo), BUFFER);
+        assert_eq!(p.package(&[], &mut s.staging, &mut s.bitmap[1..], &mut s.echo), BUFFER);
+        assert_eq!(p.package(&[], &mut s.staging, &mut s.bitmap, &mut s.echo[1..]), BUFFER);
         assert_eq!(p.listing(250, 0, &s.tables[1..], &mut s.listed), BUFFER);
         assert_eq!(p.listing(250, 0, &s.tables, &mut s.listed[1..]), BUFFER);
         let closed = p.close(0, &mut s.tables, &s.staging, &mut s.slots, &mut s.output[1..]);

@@ -6,6 +6,7 @@ use std::io::{stdin, stdout, BufReader, BufWriter, Read, Result, Write};
 use crate::calls::{read, Call, Form};
 use crate::causes::{Number, DONE};
 use crate::commands::Settings;
+use crate::image::image;
 use crate::packets::PACKET_BYTES;
 use crate::processor::Closed;
 use crate::reader::{self, Body};
@@ -111,6 +112,18 @@ fn replay(station: &mut Station, call: Call, out: &mut impl Write) -> Result<()>
         Call::ToFirst(packet) => {
             let number = station.to_first(&packet);
             print_written(out, "first", number, &station.converted)
+        }
+        Call::State(state) => {
+            station.hand_in(*state);
+            writeln!(out, "state")
+        }
+        Call::Show => {
+            write!(out, "state ")?;
+            digits(out, &image(&station.processor))
+        }
+        Call::Slots(slots) => {
+            station.hand_in_slots(&slots);
+            writeln!(out, "slots")
         }
     }
 }

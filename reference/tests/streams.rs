@@ -261,7 +261,7 @@ fn asks_and_commits_answer_by_all_packages_before_them() {
                     seen.insert((keyword, number));
                 }
                 Call::Close(time) => {
-                    loaded = station.processor.commit_waits;
+                    loaded = station.processor.commit_waits();
                     station.close(*time);
                 }
                 Call::Listing(..) => listed += loaded as usize,
@@ -353,6 +353,84 @@ fn every_cause_of_a_short_stream_occurs() {
     all("gather", &[0, 11, 12, 13, 14]);
     all("second", &[0, 11, 12, 13]);
     all("first", &[0, 11, 12, 13, 17]);
+}
+
+/// What `replay` prints of a stream with states.
+fn answers_with_states(seed: u64, limits: bool) -> Vec<String> {
+    let mut stream = Stream::new(seed, Form::Replay);
+    stream.states = true;
+    if limits {
+        stream.every_limit();
+    } else {
+        stream.tell(3_000);
+    }
+    let mut out = Vec::new();
+    program(Form::Replay, false, stream.tables, &mut &stream.bytes[..], &mut out).unwrap();
+    String::from_utf8(out).unwrap().lines().map(str::to_string).collect()
+}
+
+/// Lines of `replay` that begin with a call aboard and its number, and the state that is shown.
+fn calls_and_states(lines: &[String]) -> Vec<(&str, &str)> {
+    let words = |line: &&String| {
+        ["event ", "reading ", "line ", "package ", "close ", "listing "]
+            .iter()
+            .any(|call| line.starts_with(call))
+    };
+    let kept = lines.iter().filter(|line| line.starts_with("state") || words(line));
+    kept.map(|line| line.split_once(' ').unwrap_or((line, ""))).collect()
+}
+
+fn number(answer: &str) -> u8 {
+    answer.split(' ').next().unwrap().parse().unwrap()
+}
+
+#[test]
+fn a_refused_call_leaves_the_state() {
+    let (mut kept, mut seen) = (0, BTreeSet::new());
+    for seed in 0..12 {
+        let lines = answers_with_states(seed, false);
+        for three in calls_and_states(&lines).windows(3) {
+            let [("state", before), (call, answer), ("state", after)] = three else {
+                continue;
+            };
+            if *call == "state" || before.is_empty() || after.is_empty() {
+                continue;
+            }
+            seen.insert((call.to_string(), number(answer)));
+            if ![0, 10].contains(&number(answer)) {
+                assert_eq!(before, after, "{call} {answer}");
+                kept += 1;
+            }
+        }
+    }
+    assert!(kept > 500, "{kept}");
+    for call in ["event", "reading", "line", "package", "close", "listing"] {
+        for number in [0, 1] {
+            assert!(seen.contains(&(call.to_string(), number)), "{call} {number}");
+        }
+    }
+}
+
+#[test]
+fn every_limit_is_met_and_passed() {
+    let lines = answers_with_states(1, true);
+    let mut seen = BTreeSet::new();
+    for (call, answer) in calls_and_states(&lines) {
+        if call != "state" {
+            seen.insert((call.to_string(), number(answer)));
+        }
+    }
+    let all = |call: &str, numbers: &[u8]| {
+        for number in numbers {
+            assert!(seen.contains(&(call.to_string(), *number)), "{call} {number}");
+        }
+    };
+    all("event", &[0, 1, 2, 3]);
+    all("reading", &[0, 1, 3]);
+    all("line", &[0, 1, 5, 6, 7, 15, 16]);
+    all("package", &[0, 1, 6, 9, 10]);
+    all("close", &[0, 1]);
+    all("listing", &[0, 1, 14]);
 }
 
 #[test]

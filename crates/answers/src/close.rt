@@ -1,21 +1,17 @@
 // The answer to a close, printed.
+use crate::calls::print_bytes;
+use crate::calls::print_numbers;
 use counts::Counts;
-use processor::close::Closed;
+use output::Summary;
 
 // A line for the boxes and one for the beacons.
 fn print_counts(text: &mut [u8], at: &mut usize, counts: Counts) {
-    buffered::text::bytes(text, at, b"boxes");
-    buffered::text::numbers(text, at, &counts.boxes);
-    buffered::text::line_end(text, at);
-    buffered::text::bytes(text, at, b"beacons");
-    buffered::text::numbers(text, at, &counts.beacons);
-    buffered::text::line_end(text, at);
+    print_numbers(text, at, b"boxes", &counts.boxes);
+    print_numbers(text, at, b"beacons", &counts.beacons);
 }
 
 pub(crate) fn print_out(text: &mut [u8], at: &mut usize, packet: &[u8]) {
-    buffered::text::bytes(text, at, b"out ");
-    buffered::text::hex(text, at, packet);
-    buffered::text::line_end(text, at);
+    print_bytes(text, at, b"out ", packet);
 }
 
 // A line for each packet.
@@ -27,24 +23,29 @@ fn print_packets(text: &mut [u8], at: &mut usize, packets: &[u8]) {
     }
 }
 
-// The ended frame, taken, the filled slots, the counts and the packets.
-fn print_closed(text: &mut [u8], at: &mut usize, frame: u16, closed: Closed, packets: &[u8]) {
-    let counts = closed.counts;
-    buffered::text::number(text, at, frame as u64);
-    buffered::text::number(text, at, closed.taken as u64);
-    buffered::text::number(text, at, closed.filled as u64);
+// The ended frame, taken and the filled slots behind the number; then the counts and the packets.
+fn print_ended(text: &mut [u8], at: &mut usize, frame: u16, ended: Summary, packets: &[u8]) {
+    let carried = causes::CARRIED_OUT as u32;
+    buffered::text::bytes(text, at, b"close");
+    buffered::text::numbers(text, at, &[carried, frame as u32, ended.taken]);
+    buffered::text::number(text, at, ended.filled as u64);
     buffered::text::line_end(text, at);
-    print_counts(text, at, counts);
+    print_counts(text, at, ended.counts);
     print_packets(text, at, packets);
 }
 
-// Behind the number: nothing of a refused close.
-pub fn print_close(text: &mut [u8], at: &mut usize, frame: u16, closed: Closed, packets: &[u8]) {
-    buffered::text::bytes(text, at, b"close");
-    buffered::text::number(text, at, closed.number as u64);
-    if closed.number == causes::CARRIED_OUT {
-        print_closed(text, at, frame, closed, packets);
+// Nothing behind the number of a refused close.
+pub fn print_close(
+    text: &mut [u8],
+    at: &mut usize,
+    frame: u16,
+    number: u8,
+    ended: Summary,
+    packets: &[u8],
+) {
+    if number == causes::CARRIED_OUT {
+        print_ended(text, at, frame, ended, packets);
     } else {
-        buffered::text::line_end(text, at);
+        print_numbers(text, at, b"close", &[number as u32]);
     }
 }

@@ -1,74 +1,52 @@
 // What the ground reader makes of a packet, printed.
+use crate::calls::print_bytes;
+use crate::calls::print_numbers;
 use decode::kind::Kind;
 use ground::Packet;
 use settings::Settings;
 
-// The header's numbers and the frame.
-fn print_header(text: &mut [u8], at: &mut usize, p: Packet) {
-    buffered::text::number(text, at, p.sequence as u64);
-    buffered::text::number(text, at, p.time as u64);
-    buffered::text::number(text, at, p.frame as u64);
-}
-
-// The settings that are on or off.
-fn print_switches(text: &mut [u8], at: &mut usize, s: Settings) {
-    buffered::text::number(text, at, s.hv as u64);
-    buffered::text::number(text, at, s.eonly as u64);
-    buffered::text::number(text, at, s.toferror as u64);
-    buffered::text::number(text, at, s.junk as u64);
+// The kind, the header's numbers and the frame, and the mark or p.
+fn print_header(text: &mut [u8], at: &mut usize, kind: &[u8], p: Packet, last: u8) {
+    print_numbers(
+        text,
+        at,
+        kind,
+        &[p.sequence as u32, p.time, p.frame as u32, last as u32],
+    );
 }
 
 fn print_settings(text: &mut [u8], at: &mut usize, s: Settings, sum: u32) {
-    buffered::text::bytes(text, at, b"settings");
-    buffered::text::number(text, at, s.hvstep as u64);
-    print_switches(text, at, s);
-    buffered::text::number(text, at, s.limhi as u64);
-    buffered::text::number(text, at, sum as u64);
-    buffered::text::line_end(text, at);
-}
-
-fn print_rates(text: &mut [u8], at: &mut usize, rates: &[u32]) {
-    buffered::text::bytes(text, at, b"rates");
-    buffered::text::numbers(text, at, rates);
-    buffered::text::line_end(text, at);
+    let numbers = [
+        s.hvstep as u32,
+        s.hv as u32,
+        s.eonly as u32,
+        s.toferror as u32,
+        s.junk as u32,
+        s.limhi as u32,
+        sum,
+    ];
+    print_numbers(text, at, b"settings", &numbers);
 }
 
 fn print_rate(text: &mut [u8], at: &mut usize, p: Packet) {
-    buffered::text::bytes(text, at, b"rate");
-    print_header(text, at, p);
-    buffered::text::number(text, at, p.mark as u64);
-    buffered::text::line_end(text, at);
-    print_rates(text, at, &p.rates);
+    print_header(text, at, b"rate", p, p.mark);
+    print_numbers(text, at, b"rates", &p.rates);
     print_settings(text, at, p.settings, p.sum);
 }
 
-fn print_records(text: &mut [u8], at: &mut usize, records: &[u8]) {
-    buffered::text::bytes(text, at, b"records ");
-    buffered::text::hex(text, at, records);
-    buffered::text::line_end(text, at);
-}
-
 fn print_sample(text: &mut [u8], at: &mut usize, p: Packet, packet: &[u8]) {
-    buffered::text::bytes(text, at, b"sample");
-    print_header(text, at, p);
-    buffered::text::number(text, at, p.p as u64);
-    buffered::text::line_end(text, at);
-    print_records(text, at, ground::records(packet));
+    print_header(text, at, b"sample", p, p.p);
+    print_bytes(text, at, b"records ", ground::records(packet));
 }
 
 fn print_beacon(text: &mut [u8], at: &mut usize, p: Packet) {
-    buffered::text::bytes(text, at, b"beacon");
-    print_header(text, at, p);
-    buffered::text::number(text, at, p.mark as u64);
-    buffered::text::line_end(text, at);
-    print_rates(text, at, &p.beacons);
+    print_header(text, at, b"beacon", p, p.mark);
+    print_numbers(text, at, b"rates", &p.beacons);
 }
 
 pub fn print_packet(text: &mut [u8], at: &mut usize, packet: &[u8]) {
     let p = ground::read(packet);
-    buffered::text::bytes(text, at, b"packet");
-    buffered::text::number(text, at, p.number as u64);
-    buffered::text::line_end(text, at);
+    print_numbers(text, at, b"packet", &[p.number as u32]);
     let kind = p.kind;
     match kind {
         Kind::Rate => print_rate(text, at, p),

@@ -66,26 +66,40 @@ fn read_behind(fd: i32, buffer: &mut [u8], held: usize, n: usize) -> Filled
     Filled { bytes: end, failed }
 }
 
+// The same; a failed read is told as what could not be done.
+fn read_told(fd: i32, buffer: &mut [u8], held: usize, n: usize, what: &[u8]) -> Filled
+    requires { ⌜ held ≤ length (now buffer) ⌝ }
+    ensures { λ r. ⌜ (held ≤ r .bytes) × (r .bytes ≤ length (now (buffer .entry))) ⌝ }
+    ensures { λ r. ⌜ take held (now (buffer .exit)) ≡ take held (now (buffer .entry)) ⌝ }
+{
+    let mut name = io::buffer();
+    let k = os::arg(0, &mut name);
+    let got = read_behind(fd, buffer, held, n);
+    if got.failed {
+        tell(&name[..k], what);
+    }
+    got
+}
+
 // The same of standard input. A failed read ends the run.
 fn read_input(buffer: &mut [u8], held: usize, n: usize, at: &mut usize) -> usize
     requires { ⌜ held ≤ length (now buffer) ⌝ }
     ensures { λ r. ⌜ (held ≤ r) × (r ≤ length (now (buffer .entry))) ⌝ }
     ensures { λ r. ⌜ take held (now (buffer .exit)) ≡ take held (now (buffer .entry)) ⌝ }
 {
-    let got = read_behind(STDIN_FILENO, buffer, held, n);
+    let got = read_told(STDIN_FILENO, buffer, held, n, b"cannot read standard input");
     if got.failed {
-        tell(b"cannot read standard input");
         *at = OVER;
     }
     got.bytes
 }
 
-// Fills the buffer as far as the file goes.
-pub fn read_full(fd: i32, buffer: &mut [u8]) -> Filled
+// Fills the buffer as far as the file goes. A failed read is told as what could not be done.
+pub fn read_full(fd: i32, buffer: &mut [u8], what: &[u8]) -> Filled
     ensures { λ r. ⌜ r .bytes ≤ length (now (buffer .entry)) ⌝ }
 {
     let n = buffer.len();
-    read_behind(fd, buffer, 0, n)
+    read_told(fd, buffer, 0, n, what)
 }
 
 // Reads until n bytes wait, or as many as are left of the input. Those that waited still do, in front. A read may wait for

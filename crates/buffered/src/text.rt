@@ -14,9 +14,11 @@ pub const OVER: usize = usize::MAX;
 
 // Writes the bytes to standard output; whether all of them. That nobody reads them any more is not told.
 pub fn print(bytes: &[u8]) -> bool {
+    let mut name = io::buffer();
+    let n = os::arg(0, &mut name);
     let printed = write_all(STDOUT_FILENO, bytes);
     if !printed & (os::errno() != EPIPE) {
-        tell(b"cannot write standard output");
+        tell(&name[..n], b"cannot write standard output");
     }
     printed
 }

@@ -68,22 +68,10 @@ pub fn write_decimal(fd: i32, n: u64) -> bool {
     write_all(fd, &digits[..k])
 }
 
-// A function of its own: that a number fits its type is known of an argument, not of a call's result.
-fn wide(reason: i32) -> isize {
-    reason as isize
-}
-
-// A line on standard error: the program's name, what it could not do, and the number of the reason, as the call that
-// failed has left it.
-pub fn tell(what: &[u8]) {
-    let mut name = io::buffer();
-    // The system's numbers of reasons are below the buffer's length.
-    let reason = io::count(wide(os::errno()), &name);
-    let n = os::arg(0, &mut name);
-    write_all(STDERR_FILENO, &name[..n]);
+// A line on standard error: the program's name, what it could not do, and the system's text for the reason, as the call
+// that failed has left it. Asking for the name sets the reason anew, so a caller asks before that call.
+pub fn tell<'a>(name: &'a [u8], what: &'a [u8]) {
+    write_all(STDERR_FILENO, name);
     write_all(STDERR_FILENO, b": ");
-    write_all(STDERR_FILENO, what);
-    write_all(STDERR_FILENO, b": errno ");
-    write_decimal(STDERR_FILENO, reason as u64);
-    write_all(STDERR_FILENO, b"\n");
+    os::fail(what);
 }

@@ -27,12 +27,12 @@ abbrev pub wrongLine : ℕ
 wrongLine = 5
 
 -- "a load waits (load, load 0, loadat, package)"; document 02, Point 4: "6 holds, for ask and commit too"
-abbrev pub loadWaits : ℕ
-loadWaits = 6
+abbrev pub loadWaiting : ℕ
+loadWaiting = 6
 
 -- "32 commands this frame"
-abbrev pub commandsFull : ℕ
-commandsFull = 7
+abbrev pub commandLimit : ℕ
+commandLimit = 7
 
 -- "no N, N below 2 or not matching the bytes"
 abbrev pub packageForm : ℕ

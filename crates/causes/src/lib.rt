@@ -21,10 +21,10 @@ pub const LINE_BYTES: u8 = 4;
 pub const WRONG_LINE: u8 = 5;
 
 // A load waits.
-pub const LOAD_WAITS: u8 = 6;
+pub const LOAD_WAITING: u8 = 6;
 
 // There were 32 commands in this frame.
-pub const COMMANDS_FULL: u8 = 7;
+pub const COMMAND_LIMIT: u8 = 7;
 
 // A package has no N, or an N below 2 or not matching its bytes.
 pub const PACKAGE_FORM: u8 = 8;

@@ -1,5 +1,5 @@
 -- Each command in its ranges is given by some line: `commandOk` refuses no command that a line can give, and no line can
--- give one that it refuses (`waits-ok`, `commit-ok`). Assumes nothing.
+-- give one that it refuses (`waits-ok`). Assumes nothing.
 use mathlib.Core.Path.{_≡_, ap, _∙_}
 use mathlib.Core.Bool.{true, false}
 use mathlib.Core.List.{List, [], _∷_, _++_}
@@ -10,19 +10,21 @@ use native.Mathlib.Omega.{arith}
 use lib.Dec.{leb, eqb}
 use borrow.Author.Tests.{leb-true, leb-false, le-leb, lt-leb, ne-eqb}
 use Rattle.wire.specs.Lists.{all}
+use Rattle.wire.specs.Words.{same}
 use Rattle.wire.specs.Text.{text, hexDigit, hex2}
 use Rattle.wire.proofs.Lists.{either}
 use Rattle.load.proofs.LoadLaws.{lawful-is}
-use Rattle.command.specs.Words.{same}
-use Rattle.command.specs.Grammar.{printable, bytesOk, lineWords, isDigit, digitValue, argumentOf, rightIf, look, mostOf}
+use Rattle.command.specs.Grammar.{printable, bytesOk, lineWords, isDigit, digitValue, argumentOf, rightIf, lookupKeyword, mostOf}
 use Rattle.command.specs.Grammar.{withOne, withThree, oneArgument, threeArguments, ofWords, lineOf, commandOk}
-use Rattle.command.specs.Asked.{leftWaiting}
+use Rattle.command.specs.Asked.{traitsOf}
 use Rattle.command.specs.declared.command.Line.{Line}
 use Rattle.command.specs.declared.command.Command.{Command}
 use Rattle.command.specs.declared.command.Command.the-variants.{Set, Load}
 use Rattle.command.specs.declared.command.Setting.{Setting}
 use Rattle.command.specs.declared.command.Setting.the-variants.{Limhi, Eonly, Toferror, Junk, Hv, Hvstep}
-use Rattle.command.specs.declared.command.Line.the-variants.{Waits, Commit}
+use Rattle.command.specs.declared.command.Line.the-variants.{Change, Commit}
+use Rattle.command.specs.declared.traits.Leaves.the-variants.{Waits}
+use Rattle.command.specs.declared.ranges.Ranges.{Ranges}
 use Rattle.command.specs.declared.argument.Argument.{Argument}
 use Rattle.command.specs.declared.argument.Argument.the-variants.{Value}
 
@@ -107,45 +109,48 @@ lineFor (Set k n) = text (word k) ++ 32 ∷ digits n
 lineFor (Load a y) = text "commit" ++ 32 ∷ (digits a ++ 32 ∷ (digits y ++ 32 ∷ digits 0))
 
 -- no value of a setting has more than four digits
-most-small : (k : Setting) (n : ℕ) → n ≤ mostOf k → n < 65536
-most-small Limhi n h = omega arith
-most-small Eonly n h = omega arith
-most-small Toferror n h = omega arith
-most-small Junk n h = omega arith
-most-small Hv n h = omega arith
-most-small Hvstep n h = omega arith
+most-small : (k : Setting) (n : ℕ) (ranges : Ranges) → ranges .limhi < 65536 → n ≤ mostOf k ranges → n < 65536
+most-small Limhi n ranges f h = omega arith
+most-small Eonly n ranges f h = omega arith
+most-small Toferror n ranges f h = omega arith
+most-small Junk n ranges f h = omega arith
+most-small Hv n ranges f h = omega arith
+most-small Hvstep n ranges f h = omega arith
 
 -- a keyword and one number
-one-number : (k : List ℕ) (n reach : ℕ) → n < 65536 → ofWords (k ∷ lineWords (digits n)) reach ≡ withOne k n reach
+one-number : (k : List ℕ) (n : ℕ) (ranges : Ranges) → n < 65536 → ofWords (k ∷ lineWords (digits n)) ranges ≡ withOne k n ranges
 unfolding ofWords oneArgument
-one-number k n reach h = rw (words-digits n h) (ap (λ (a : Argument). oneArgument k a reach) (argument-digits n h))
+one-number k n ranges h = rw (words-digits n h) (ap (λ (a : Argument). oneArgument k a ranges) (argument-digits n h))
 
 -- and three
-three-numbers : (k : List ℕ) (a y n reach : ℕ) → a < 65536 → y < 65536 → n < 65536
-    → ofWords (k ∷ lineWords (digits a ++ 32 ∷ (digits y ++ 32 ∷ digits n))) reach ≡ withThree k a y n reach
+three-numbers : (k : List ℕ) (a y n : ℕ) (ranges : Ranges) → a < 65536 → y < 65536 → n < 65536
+    → ofWords (k ∷ lineWords (digits a ++ 32 ∷ (digits y ++ 32 ∷ digits n))) ranges ≡ withThree k a y n ranges
 unfolding ofWords threeArguments
-three-numbers k a y n reach h g f =
+three-numbers k a y n ranges h g f =
     rw (words-digits-more a h (digits y ++ 32 ∷ digits n), words-digits-more y g (digits n), words-digits n f)
-    (λ i. threeArguments k (argument-digits a h i) (argument-digits y g i) (argument-digits n f i) reach)
+    (λ i. threeArguments k (argument-digits a h i) (argument-digits y g i) (argument-digits n f i) ranges)
 
 -- a setting's line, where its keyword gives it
-gives-set : (k : Setting) (n reach : ℕ) → n < 65536 → leb n (mostOf k) ≡ true → lineOf (lineFor (Set k n)) reach ≡ Waits (Set k n)
-unfolding lineOf lineWords withOne look same rightIf
-gives-set Limhi n reach h g = one-number (text "limhi") n reach h ∙ rw g
-gives-set Eonly n reach h g = one-number (text "eonly") n reach h ∙ rw g
-gives-set Toferror n reach h g = one-number (text "toferror") n reach h ∙ rw g
-gives-set Junk n reach h g = one-number (text "junk") n reach h ∙ rw g
-gives-set Hv n reach h g = one-number (text "hv") n reach h ∙ rw g
-gives-set Hvstep n reach h g = one-number (text "hvstep") n reach h ∙ rw g
+gives-set : (k : Setting) (n : ℕ) (ranges : Ranges) → n < 65536 → leb n (mostOf k ranges) ≡ true
+    → lineOf (lineFor (Set k n)) ranges ≡ Change k n
+unfolding lineOf lineWords withOne lookupKeyword same rightIf
+gives-set Limhi n ranges h g = one-number (text "limhi") n ranges h ∙ rw g
+gives-set Eonly n ranges h g = one-number (text "eonly") n ranges h ∙ rw g
+gives-set Toferror n ranges h g = one-number (text "toferror") n ranges h ∙ rw g
+gives-set Junk n ranges h g = one-number (text "junk") n ranges h ∙ rw g
+gives-set Hv n ranges h g = one-number (text "hv") n ranges h ∙ rw g
+gives-set Hvstep n ranges h g = one-number (text "hvstep") n ranges h ∙ rw g
 
-gives : (c : Command) (reach : ℕ) → commandOk c reach ≡ true → leftWaiting (lineOf (lineFor c) reach) ≡ c ∷ []
-unfolding lineOf lineWords withThree look same rightIf
-gives (Set k n) reach h = ap leftWaiting (gives-set k n reach (most-small k n (leb-true n (mostOf k) h)) h)
-gives (Load a y) reach h =
-    let l = lawful-is a y reach h in
-    let e : lineOf (lineFor (Load a y)) reach ≡ Commit a y 0 =
-    three-numbers (text "commit") a y 0 reach (omega arith) (omega arith) (omega arith) ∙ rw h in
-    ap leftWaiting e
+gives : (c : Command) (ranges : Ranges) → ranges .limhi < 65536 → commandOk c ranges ≡ true
+    → traitsOf (lineOf (lineFor c) ranges) .leaves ≡ Waits c
+unfolding lineOf lineWords withThree lookupKeyword same rightIf
+gives (Set k n) ranges f h =
+    ap (λ (l : Line). traitsOf l .leaves) (gives-set k n ranges (most-small k n ranges f (leb-true n (mostOf k ranges) h)) h)
+gives (Load a y) ranges f h =
+    let l = lawful-is a y (ranges .reach) h in
+    let e : lineOf (lineFor (Load a y)) ranges ≡ Commit a y 0 =
+    three-numbers (text "commit") a y 0 ranges (omega arith) (omega arith) (omega arith) ∙ rw h in
+    ap (λ (l : Line). traitsOf l .leaves) e
 
 bytes-set : (k : Setting) (n : ℕ) → n < 65536 → bytesOk (lineFor (Set k n)) ≡ true
 bytes-set Limhi n h = all-digits n h []
@@ -155,13 +160,13 @@ bytes-set Junk n h = all-digits n h []
 bytes-set Hv n h = all-digits n h []
 bytes-set Hvstep n h = all-digits n h []
 
-line-bytes : (c : Command) (reach : ℕ) → commandOk c reach ≡ true → bytesOk (lineFor c) ≡ true
-line-bytes (Set k n) reach h = bytes-set k n (most-small k n (leb-true n (mostOf k) h))
-line-bytes (Load a y) reach h =
-    let l = lawful-is a y reach h in
+line-bytes : (c : Command) (ranges : Ranges) → ranges .limhi < 65536 → commandOk c ranges ≡ true → bytesOk (lineFor c) ≡ true
+line-bytes (Set k n) ranges f h = bytes-set k n (most-small k n ranges f (leb-true n (mostOf k ranges) h))
+line-bytes (Load a y) ranges f h =
+    let l = lawful-is a y (ranges .reach) h in
     all-digits a (omega arith) (32 ∷ (digits y ++ 32 ∷ digits 0)) ∙ all-digits y (omega arith) (32 ∷ digits 0)
 
--- a command that is ok is what some line leaves waiting
-pub ok-given : (c : Command) (reach : ℕ) → commandOk c reach ≡ true
-    → (line : List ℕ) × ((bytesOk line ≡ true) × (leftWaiting (lineOf line reach) ≡ c ∷ []))
-ok-given c reach h = (lineFor c, (line-bytes c reach h, gives c reach h))
+-- a command that is ok is what some line leaves waiting. LIMHI is a 16-bit number, so that four digits hold it
+pub ok-given : (c : Command) (ranges : Ranges) → ranges .limhi < 65536 → commandOk c ranges ≡ true
+    → (line : List ℕ) × ((bytesOk line ≡ true) × (traitsOf (lineOf line ranges) .leaves ≡ Waits c))
+ok-given c ranges f h = (lineFor c, (line-bytes c ranges f h, gives c ranges f h))

@@ -1,84 +1,53 @@
 -- What a line or a command asks of a call (document 01, "Commands and loads" and causes 5, 6 and 7; document 02, Point 4). Assumes nothing.
 use mathlib.Core.Bool.{Bool, true, false}
-use mathlib.Core.List.{List, [], _∷_}
 use Prim.Native.Nat.{ℕ}
 use lib.Dec.{eqb}
 use Rattle.command.specs.declared.command.Command.{Command}
 use Rattle.command.specs.declared.command.Command.the-variants.{Set, Load}
 use Rattle.command.specs.declared.command.Line.{Line}
-use Rattle.command.specs.declared.command.Line.the-variants.{Empty, Wrong, Waits, LoadZero, LoadAt, Ask, Commit}
+use Rattle.command.specs.declared.command.Line.the-variants.{Empty, Wrong, Change, LoadZero, LoadAt, Ask, Commit}
+use Rattle.command.specs.declared.traits.Leaves.{Leaves}
+use Rattle.command.specs.declared.traits.Leaves.the-variants.{Nothing, Waits}
+use Rattle.command.specs.declared.traits.Sum.{Sum}
+use Rattle.command.specs.declared.traits.Sum.the-variants.{Any, Named}
+use Rattle.command.specs.declared.traits.Traits.{Traits}
 
 abbrev pub isLoad : Command → Bool
 isLoad (Set k n) = false
 isLoad (Load a y) = true
 
--- "unknown keyword, wrong argument"
-abbrev pub isWrong : Line → Bool
-isWrong Empty = false
-isWrong Wrong = true
-isWrong (Waits c) = false
-isWrong LoadZero = false
-isWrong (LoadAt a) = false
-isWrong Ask = false
-isWrong (Commit a y n) = false
+-- ---- a line's traits: what its checks and its effect go by
+--     wrong      "unknown keyword, wrong argument"
+--     command    every line but an empty one, which "is no command, also after 32", and a wrong one
+--     staging    what a waiting load blocks: 6, "a load waits (load, load 0, loadat, package)"
+--     load       what 15 is about, the staged bytes of a load
+--     ask        "returns those bytes' sum"
+--     sum        what 16 is about, the sum that the line names
+--     leaves     the command that it leaves waiting until close
 
--- every line but an empty one, which "is no command, also after 32", and a wrong one
-abbrev pub isCommand : Line → Bool
-isCommand Empty = false
-isCommand Wrong = false
-isCommand (Waits c) = true
-isCommand LoadZero = true
-isCommand (LoadAt a) = true
-isCommand Ask = true
-isCommand (Commit a y n) = true
+abbrev pub noCommand : (wrong : Bool) → Traits
+noCommand wrong = record { wrong = wrong; command = false; staging = false; load = false; ask = false; sum = Any; leaves = Nothing }
 
--- what a waiting load blocks: 6, "a load waits (load, load 0, loadat, package)"; "while it waits 6 holds, for ask and commit too"
-abbrev pub usesStaging : Line → Bool
-usesStaging Empty = false
-usesStaging Wrong = false
-usesStaging (Waits c) = isLoad c
-usesStaging LoadZero = true
-usesStaging (LoadAt a) = true
-usesStaging Ask = true
-usesStaging (Commit a y n) = true
+-- "ask a y" checks "that no byte below the reach was last written by a package with a wrong sum", "commit a y sum" "is checked
+-- likewise"; "while it waits 6 holds, for ask and commit too"
+abbrev pub aboutLoad : (ask : Bool) → Sum → Leaves → Traits
+aboutLoad ask sum leaves = record { wrong = false; command = true; staging = true; load = true; ask = ask; sum = sum; leaves = leaves }
 
--- "The line "ask a y" .. returns those bytes' sum"
-abbrev pub isAsk : Line → Bool
-isAsk Empty = false
-isAsk Wrong = false
-isAsk (Waits c) = false
-isAsk LoadZero = false
-isAsk (LoadAt a) = false
-isAsk Ask = true
-isAsk (Commit a y n) = false
+abbrev pub otherCommand : (staging : Bool) → Leaves → Traits
+otherCommand staging leaves =
+    record { wrong = false; command = true; staging = staging; load = false; ask = false; sum = Any; leaves = leaves }
 
--- what 15 is about: "ask a y" checks "that no byte below the reach was last written by a package with a wrong sum"; "commit a y sum"
--- "is checked likewise"
-abbrev pub asksLoad : Line → Bool
-asksLoad Empty = false
-asksLoad Wrong = false
-asksLoad (Waits c) = false
-asksLoad LoadZero = false
-asksLoad (LoadAt a) = false
-asksLoad Ask = true
-asksLoad (Commit a y n) = true
+-- a commit "waits as load did"
+abbrev pub traitsOf : Line → Traits
+traitsOf Empty = noCommand false
+traitsOf Wrong = noCommand true
+traitsOf (Change k n) = otherCommand false (Waits (Set k n))
+traitsOf LoadZero = otherCommand true Nothing
+traitsOf (LoadAt a) = otherCommand true Nothing
+traitsOf Ask = aboutLoad true Any Nothing
+traitsOf (Commit a y n) = aboutLoad false (Named n) (Waits (Load a y))
 
--- what 16 is about: whether a commit's sum is that of the bytes. No other line names one
-abbrev pub sumAgrees : Line → (sum : ℕ) → Bool
-sumAgrees Empty sum = true
-sumAgrees Wrong sum = true
-sumAgrees (Waits c) sum = true
-sumAgrees LoadZero sum = true
-sumAgrees (LoadAt a) sum = true
-sumAgrees Ask sum = true
-sumAgrees (Commit a y n) sum = eqb n sum
-
--- the command that a line leaves waiting, where it leaves one: a commit "waits as load did"
-abbrev pub leftWaiting : Line → List Command
-leftWaiting Empty = []
-leftWaiting Wrong = []
-leftWaiting (Waits c) = c ∷ []
-leftWaiting LoadZero = []
-leftWaiting (LoadAt a) = []
-leftWaiting Ask = []
-leftWaiting (Commit a y n) = Load a y ∷ []
+-- whether the sum of the staged bytes is the one that a line names, where it names one
+abbrev pub sumAgrees : Sum → (sum : ℕ) → Bool
+sumAgrees Any sum = true
+sumAgrees (Named n) sum = eqb n sum

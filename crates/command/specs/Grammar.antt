@@ -8,14 +8,15 @@ use lib.Dec.{leb, eqb}
 use lib.ListN.{length}
 use Rattle.wire.specs.Lists.{all}
 use Rattle.wire.specs.Text.{text}
-use Rattle.command.specs.Words.{same}
+use Rattle.wire.specs.Words.{same}
 use Rattle.load.specs.Load.{loadLawful}
 use Rattle.command.specs.declared.command.Command.{Command}
 use Rattle.command.specs.declared.command.Command.the-variants.{Set, Load}
 use Rattle.command.specs.declared.command.Setting.{Setting}
 use Rattle.command.specs.declared.command.Setting.the-variants.{Limhi, Eonly, Toferror, Junk, Hv, Hvstep}
 use Rattle.command.specs.declared.command.Line.{Line}
-use Rattle.command.specs.declared.command.Line.the-variants.{Empty, Wrong, Waits, LoadZero, LoadAt, Ask, Commit}
+use Rattle.command.specs.declared.command.Line.the-variants.{Empty, Wrong, Change, LoadZero, LoadAt, Ask, Commit}
+use Rattle.command.specs.declared.ranges.Ranges.{Ranges}
 use Rattle.command.specs.declared.argument.Argument.{Argument}
 use Rattle.command.specs.declared.argument.Argument.the-variants.{Value, Malformed}
 
@@ -75,82 +76,83 @@ unfoldable pub rightIf : Bool → Line → Line
 rightIf ok l = cond ok l Wrong
 
 -- the entry of a table of keywords for k; an unknown keyword makes a wrong line
-unfoldable pub look : List ℕ → List (String × Line) → Line
-look k [] = Wrong
-look k (e ∷ es) = cond (same k (text (e .0))) (e .1) (look k es)
+unfoldable pub lookupKeyword : List ℕ → List (String × Line) → Line
+lookupKeyword k [] = Wrong
+lookupKeyword k (e ∷ es) = cond (same k (text (e .0))) (e .1) (lookupKeyword k es)
 
 -- the settings' keywords
 abbrev pub settingWords : List (String × Setting)
 settingWords =
     ("limhi", Limhi) ∷ ("eonly", Eonly) ∷ ("toferror", Toferror) ∷ ("junk", Junk) ∷ ("hv", Hv) ∷ ("hvstep", Hvstep) ∷ []
 
--- a setting's largest value, the least being 0: "limhi (0 to 2c0), eonly, toferror, junk, hv (0 or 1), hvstep (0 to ff)"
-abbrev pub mostOf : Setting → ℕ
-mostOf Limhi = 0x2c0
-mostOf Eonly = 1
-mostOf Toferror = 1
-mostOf Junk = 1
-mostOf Hv = 1
-mostOf Hvstep = 0xff
+-- a setting's largest value, the least being 0: "limhi (0 to 2c0), eonly, toferror, junk, hv (0 or 1), hvstep (0 to ff)"; LIMHI's
+-- goes by the capacity
+abbrev pub mostOf : Setting → Ranges → ℕ
+mostOf Limhi ranges = ranges .limhi
+mostOf Eonly ranges = 1
+mostOf Toferror ranges = 1
+mostOf Junk ranges = 1
+mostOf Hv ranges = 1
+mostOf Hvstep ranges = 0xff
 
 -- a setting's line
-abbrev pub setLine : Setting → ℕ → Line
-setLine k n = rightIf (leb n (mostOf k)) (Waits (Set k n))
+abbrev pub setLine : Setting → ℕ → Ranges → Line
+setLine k n ranges = rightIf (leb n (mostOf k ranges)) (Change k n)
 
 -- the keywords that take one argument, n: those of the settings, and "load 0 (one argument of value 0; any other single one is
 -- wrong), loadat a"; "loadat a needs a ≤ reach"
-abbrev pub keywords : (n reach : ℕ) → List (String × Line)
-keywords n reach =
-    map (λ e. (e .0, setLine (e .1) n)) settingWords
-    ++ ("load", rightIf (eqb n 0) LoadZero) ∷ ("loadat", rightIf (leb n reach) (LoadAt n)) ∷ []
+abbrev pub keywords : (n : ℕ) → Ranges → List (String × Line)
+keywords n ranges =
+    map (λ e. (e .0, setLine (e .1) n ranges)) settingWords
+    ++ ("load", rightIf (eqb n 0) LoadZero) ∷ ("loadat", rightIf (leb n (ranges .reach)) (LoadAt n)) ∷ []
 
-unfoldable pub withOne : List ℕ → ℕ → ℕ → Line
-withOne k n reach = look k (keywords n reach)
+unfoldable pub withOne : List ℕ → ℕ → Ranges → Line
+withOne k n ranges = lookupKeyword k (keywords n ranges)
 
 -- the one that takes two: "The line "ask a y" checks as load did": it "needs reach ≥ 1 and all words in 7000 to C202, judged when the
 -- line comes". "Two-argument load disappears"
-unfoldable pub withTwo : List ℕ → ℕ → ℕ → ℕ → Line
-withTwo k a y reach = look k (("ask", rightIf (loadLawful a y reach) Ask) ∷ [])
+unfoldable pub withTwo : List ℕ → ℕ → ℕ → Ranges → Line
+withTwo k a y ranges = lookupKeyword k (("ask", rightIf (loadLawful a y (ranges .reach)) Ask) ∷ [])
 
 -- and three: "The line "commit a y sum" is checked likewise"
-unfoldable pub withThree : List ℕ → ℕ → ℕ → ℕ → ℕ → Line
-withThree k a y sum reach = look k (("commit", rightIf (loadLawful a y reach) (Commit a y sum)) ∷ [])
+unfoldable pub withThree : List ℕ → ℕ → ℕ → ℕ → Ranges → Line
+withThree k a y sum ranges = lookupKeyword k (("commit", rightIf (loadLawful a y (ranges .reach)) (Commit a y sum)) ∷ [])
 
 -- ---- lines
 
 -- a keyword with an argument
-unfoldable pub oneArgument : List ℕ → Argument → ℕ → Line
-oneArgument k Malformed reach = Wrong
-oneArgument k (Value n) reach = withOne k n reach
+unfoldable pub oneArgument : List ℕ → Argument → Ranges → Line
+oneArgument k Malformed ranges = Wrong
+oneArgument k (Value n) ranges = withOne k n ranges
 
 -- a keyword with two
-unfoldable pub twoArguments : List ℕ → Argument → Argument → ℕ → Line
-twoArguments k Malformed b reach = Wrong
-twoArguments k (Value n) Malformed reach = Wrong
-twoArguments k (Value n) (Value m) reach = withTwo k n m reach
+unfoldable pub twoArguments : List ℕ → Argument → Argument → Ranges → Line
+twoArguments k Malformed b ranges = Wrong
+twoArguments k (Value n) Malformed ranges = Wrong
+twoArguments k (Value n) (Value m) ranges = withTwo k n m ranges
 
 -- and with three
-unfoldable pub threeArguments : List ℕ → Argument → Argument → Argument → ℕ → Line
-threeArguments k Malformed b c reach = Wrong
-threeArguments k (Value n) Malformed c reach = Wrong
-threeArguments k (Value n) (Value m) Malformed reach = Wrong
-threeArguments k (Value n) (Value m) (Value l) reach = withThree k n m l reach
+unfoldable pub threeArguments : List ℕ → Argument → Argument → Argument → Ranges → Line
+threeArguments k Malformed b c ranges = Wrong
+threeArguments k (Value n) Malformed c ranges = Wrong
+threeArguments k (Value n) (Value m) Malformed ranges = Wrong
+threeArguments k (Value n) (Value m) (Value l) ranges = withThree k n m l ranges
 
 -- "a keyword, then arguments .., one space before each": the first word is the keyword, the others the arguments
-unfoldable pub ofWords : List (List ℕ) → ℕ → Line
-ofWords [] reach = Wrong
-ofWords (k ∷ []) reach = Wrong
-ofWords (k ∷ a ∷ []) reach = oneArgument k (argumentOf a) reach
-ofWords (k ∷ a ∷ b ∷ []) reach = twoArguments k (argumentOf a) (argumentOf b) reach
-ofWords (k ∷ a ∷ b ∷ c ∷ []) reach = threeArguments k (argumentOf a) (argumentOf b) (argumentOf c) reach
-ofWords (k ∷ a ∷ b ∷ c ∷ d ∷ ws) reach = Wrong
+unfoldable pub ofWords : List (List ℕ) → Ranges → Line
+ofWords [] ranges = Wrong
+ofWords (k ∷ []) ranges = Wrong
+ofWords (k ∷ a ∷ []) ranges = oneArgument k (argumentOf a) ranges
+ofWords (k ∷ a ∷ b ∷ []) ranges = twoArguments k (argumentOf a) (argumentOf b) ranges
+ofWords (k ∷ a ∷ b ∷ c ∷ []) ranges = threeArguments k (argumentOf a) (argumentOf b) (argumentOf c) ranges
+ofWords (k ∷ a ∷ b ∷ c ∷ d ∷ ws) ranges = Wrong
 
--- what a line is, at this reach: "Empty line: .. it answers 0 and is no command"
-unfoldable pub lineOf : List ℕ → ℕ → Line
-lineOf line reach = cond (eqb (length line) 0) Empty (ofWords (lineWords line) reach)
+-- what a line is, in these ranges: "Empty line: .. it answers 0 and is no command"
+unfoldable pub lineOf : List ℕ → Ranges → Line
+lineOf line ranges = cond (eqb (length line) 0) Empty (ofWords (lineWords line) ranges)
 
--- whether some line gives this command at this reach ("a waiting command that no line could give" is cause 1): "For 1, a waiting
+-- whether some line gives this command in these ranges ("a waiting command that no line could give" is cause 1): "For 1, a waiting
 -- commit is judged by a, y and reach alone, as load was"
-abbrev pub commandOk : Command → (reach : ℕ) → Bool
-commandOk (Set k n) reach = leb n (mostOf k)
-commandOk (Load a y) reach = loadLawful a y reach
+abbrev pub commandOk : Command → Ranges → Bool
+commandOk (Set k n) ranges = leb n (mostOf k ranges)
+commandOk (Load a y) ranges = loadLawful a y (ranges .reach)

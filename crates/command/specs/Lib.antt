@@ -2,4 +2,3 @@ pub mod Asked
 pub mod Change
 pub mod Grammar
 pub mod Parsing
-pub mod Words

@@ -1,7 +1,8 @@
 // What a line asks for.
 ghost use mathlib.Core.Path.{_≡_};
 ghost use Rattle.command.specs.Grammar.{mostOf, commandOk};
-ghost use Rattle.command.specs.Asked.{isLoad, isWrong, isCommand, isAsk, asksLoad, usesStaging, sumAgrees};
+ghost use Rattle.command.specs.Asked.{isLoad};
+use crate::ranges::Ranges;
 
 // The settings that a command changes.
 pub enum Setting {
@@ -26,7 +27,8 @@ pub enum Line {
     Empty,
     // An unknown keyword or a wrong argument.
     Wrong,
-    Waits(Command),
+    // A setting, and its new value from the close on.
+    Change(Setting, u16),
     // The commands that are carried out when accepted.
     LoadZero,
     LoadAt(u32),
@@ -37,11 +39,11 @@ pub enum Line {
 }
 
 // The largest value of a setting; the least is 0. That of a flag is 1.
-pub fn most_of(k: Setting) -> u16
-    ensures { λ r. ⌜ r ≡ mostOf k ⌝ }
+pub fn most_of(k: Setting, ranges: Ranges) -> u16
+    ensures { λ r. ⌜ r ≡ mostOf k ranges ⌝ }
 {
     match k {
-        Setting::Limhi => settings::SLOTS,
+        Setting::Limhi => ranges.limhi,
         Setting::Eonly => 1,
         Setting::Toferror => 1,
         Setting::Junk => 1,
@@ -50,13 +52,13 @@ pub fn most_of(k: Setting) -> u16
     }
 }
 
-// Whether some line gives this command at this reach.
-pub fn command_ok(c: Command, reach: u32) -> bool
-    ensures { λ r. ⌜ r ≡ commandOk c reach ⌝ }
+// Whether some line gives this command in these ranges.
+pub fn command_ok(c: Command, ranges: Ranges) -> bool
+    ensures { λ r. ⌜ r ≡ commandOk c ranges ⌝ }
 {
     match c {
-        Command::Set(k, n) => n <= most_of(k),
-        Command::Load(a, y) => load::words::load_lawful(a, y, reach),
+        Command::Set(k, n) => n <= most_of(k, ranges),
+        Command::Load(a, y) => load::words::load_lawful(a, y, ranges.reach),
     }
 }
 
@@ -67,95 +69,5 @@ pub fn is_load(c: Command) -> bool
     match c {
         Command::Set(_, _) => false,
         Command::Load(_, _) => true,
-    }
-}
-
-// Whether a line has an unknown keyword or a wrong argument.
-pub fn is_wrong(l: Line) -> bool
-    ensures { λ r. ⌜ r ≡ isWrong l ⌝ }
-{
-    match l {
-        Line::Empty => false,
-        Line::Wrong => true,
-        Line::Waits(_) => false,
-        Line::LoadZero => false,
-        Line::LoadAt(_) => false,
-        Line::Ask => false,
-        Line::Commit(_, _, _) => false,
-    }
-}
-
-// Whether a line is a command: every line but an empty or a wrong one.
-pub fn is_command(l: Line) -> bool
-    ensures { λ r. ⌜ r ≡ isCommand l ⌝ }
-{
-    match l {
-        Line::Empty => false,
-        Line::Wrong => false,
-        Line::Waits(_) => true,
-        Line::LoadZero => true,
-        Line::LoadAt(_) => true,
-        Line::Ask => true,
-        Line::Commit(_, _, _) => true,
-    }
-}
-
-// Whether a line uses staging or its addresses, so that a waiting load blocks it.
-pub fn uses_staging(l: Line) -> bool
-    ensures { λ r. ⌜ r ≡ usesStaging l ⌝ }
-{
-    match l {
-        Line::Empty => false,
-        Line::Wrong => false,
-        Line::Waits(c) => is_load(c),
-        Line::LoadZero => true,
-        Line::LoadAt(_) => true,
-        Line::Ask => true,
-        Line::Commit(_, _, _) => true,
-    }
-}
-
-// Whether a line asks for the sum of the staged bytes.
-pub fn is_ask(l: Line) -> bool
-    ensures { λ r. ⌜ r ≡ isAsk l ⌝ }
-{
-    match l {
-        Line::Empty => false,
-        Line::Wrong => false,
-        Line::Waits(_) => false,
-        Line::LoadZero => false,
-        Line::LoadAt(_) => false,
-        Line::Ask => true,
-        Line::Commit(_, _, _) => false,
-    }
-}
-
-// Whether a line is about a load of the staged bytes, so that none of them may be bad.
-pub fn asks_load(l: Line) -> bool
-    ensures { λ r. ⌜ r ≡ asksLoad l ⌝ }
-{
-    match l {
-        Line::Empty => false,
-        Line::Wrong => false,
-        Line::Waits(_) => false,
-        Line::LoadZero => false,
-        Line::LoadAt(_) => false,
-        Line::Ask => true,
-        Line::Commit(_, _, _) => true,
-    }
-}
-
-// Whether a line names no sum, or this one.
-pub fn sum_agrees(l: Line, sum: u32) -> bool
-    ensures { λ r. ⌜ r ≡ sumAgrees l sum ⌝ }
-{
-    match l {
-        Line::Empty => true,
-        Line::Wrong => true,
-        Line::Waits(_) => true,
-        Line::LoadZero => true,
-        Line::LoadAt(_) => true,
-        Line::Ask => true,
-        Line::Commit(_, _, n) => n == sum,
     }
 }

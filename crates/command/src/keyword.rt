@@ -1,18 +1,18 @@
 // Keywords with their arguments, each in its range.
 ghost use mathlib.Core.Path.{_≡_};
 ghost use mathlib.Core.Bool.{cond};
-ghost use Rattle.command.specs.Words.{same};
+ghost use Rattle.wire.specs.Words.{same};
 ghost use Rattle.command.specs.Grammar.{rightIf, setLine, withOne, withTwo, withThree};
 ghost use Rattle.command.specs.Grammar.{oneArgument, twoArguments, threeArguments};
 ghost use Rattle.load.specs.Load.{loadLawful};
 use crate::argument::Argument;
-use crate::command::Command;
 use crate::command::Line;
 use crate::command::Setting;
 use crate::command::most_of;
-use crate::words::same;
+use crate::ranges::Ranges;
 use load::words::TWO_BYTES;
 use load::words::load_lawful;
+use wire::words::same;
 
 fn right_if(ok: bool, l: Line) -> Line
     ensures { λ r. ⌜ r ≡ rightIf ok l ⌝ }
@@ -21,11 +21,11 @@ fn right_if(ok: bool, l: Line) -> Line
 }
 
 // The line that sets a setting to n.
-fn set_line(k: Setting, n: u32) -> Line
-    ensures { λ r. ⌜ r ≡ setLine k n ⌝ }
+fn set_line(k: Setting, n: u32, ranges: Ranges) -> Line
+    ensures { λ r. ⌜ r ≡ setLine k n ranges ⌝ }
 {
-    if n <= most_of(k) as u32 {
-        Line::Waits(Command::Set(k, n as u16))
+    if n <= most_of(k, ranges) as u32 {
+        Line::Change(k, n as u16)
     } else {
         Line::Wrong
     }
@@ -58,54 +58,59 @@ fn row(keyword: &[u8], word: &[u8], l: Line, behind: Line) -> Line
 }
 
 // A keyword with one argument: the table's rows, from the last to the first.
-fn with_one(keyword: &[u8], n: u32, reach: u32) -> Line
-    ensures { λ r. ⌜ r ≡ withOne (now (keyword .entry)) n reach ⌝ }
+fn with_one(keyword: &[u8], n: u32, ranges: Ranges) -> Line
+    ensures { λ r. ⌜ r ≡ withOne (now (keyword .entry)) n ranges ⌝ }
 {
-    let loadat = right_if(n <= reach, Line::LoadAt(n));
+    let loadat = right_if(n <= ranges.reach, Line::LoadAt(n));
     let l = row(keyword, b"loadat", loadat, Line::Wrong);
     let l = row(keyword, b"load", right_if(n == 0, Line::LoadZero), l);
-    let l = row(keyword, b"hvstep", set_line(Setting::Hvstep, n), l);
-    let l = row(keyword, b"hv", set_line(Setting::Hv, n), l);
-    let l = row(keyword, b"junk", set_line(Setting::Junk, n), l);
-    let l = row(keyword, b"toferror", set_line(Setting::Toferror, n), l);
-    let l = row(keyword, b"eonly", set_line(Setting::Eonly, n), l);
-    row(keyword, b"limhi", set_line(Setting::Limhi, n), l)
+    let l = row(keyword, b"hvstep", set_line(Setting::Hvstep, n, ranges), l);
+    let l = row(keyword, b"hv", set_line(Setting::Hv, n, ranges), l);
+    let l = row(keyword, b"junk", set_line(Setting::Junk, n, ranges), l);
+    let l = row(
+        keyword,
+        b"toferror",
+        set_line(Setting::Toferror, n, ranges),
+        l,
+    );
+    let l = row(keyword, b"eonly", set_line(Setting::Eonly, n, ranges), l);
+    row(keyword, b"limhi", set_line(Setting::Limhi, n, ranges), l)
 }
 
 // A keyword with two arguments.
-fn with_two(keyword: &[u8], a: u32, y: u32, reach: u32) -> Line
-    ensures { λ r. ⌜ r ≡ withTwo (now (keyword .entry)) a y reach ⌝ }
+fn with_two(keyword: &[u8], a: u32, y: u32, ranges: Ranges) -> Line
+    ensures { λ r. ⌜ r ≡ withTwo (now (keyword .entry)) a y ranges ⌝ }
 {
-    row(keyword, b"ask", ask_line(a, y, reach), Line::Wrong)
+    row(keyword, b"ask", ask_line(a, y, ranges.reach), Line::Wrong)
 }
 
 // A keyword with three.
-fn with_three(keyword: &[u8], a: u32, y: u32, sum: u32, reach: u32) -> Line
-    ensures { λ r. ⌜ r ≡ withThree (now (keyword .entry)) a y sum reach ⌝ }
+fn with_three(keyword: &[u8], a: u32, y: u32, sum: u32, ranges: Ranges) -> Line
+    ensures { λ r. ⌜ r ≡ withThree (now (keyword .entry)) a y sum ranges ⌝ }
 {
     row(
         keyword,
         b"commit",
-        commit_line(a, y, sum, reach),
+        commit_line(a, y, sum, ranges.reach),
         Line::Wrong,
     )
 }
 
-pub fn one_argument(keyword: &[u8], n: Argument, reach: u32) -> Line
-    ensures { λ r. ⌜ r ≡ oneArgument (now (keyword .entry)) n reach ⌝ }
+pub fn one_argument(keyword: &[u8], n: Argument, ranges: Ranges) -> Line
+    ensures { λ r. ⌜ r ≡ oneArgument (now (keyword .entry)) n ranges ⌝ }
 {
     match n {
-        Argument::Value(x) => with_one(keyword, x, reach),
+        Argument::Value(x) => with_one(keyword, x, ranges),
         Argument::Malformed => Line::Wrong,
     }
 }
 
-pub fn two_arguments(keyword: &[u8], n: Argument, m: Argument, reach: u32) -> Line
-    ensures { λ r. ⌜ r ≡ twoArguments (now (keyword .entry)) n m reach ⌝ }
+pub fn two_arguments(keyword: &[u8], n: Argument, m: Argument, ranges: Ranges) -> Line
+    ensures { λ r. ⌜ r ≡ twoArguments (now (keyword .entry)) n m ranges ⌝ }
 {
     match n {
         Argument::Value(x) => match m {
-            Argument::Value(y) => with_two(keyword, x, y, reach),
+            Argument::Value(y) => with_two(keyword, x, y, ranges),
             Argument::Malformed => Line::Wrong,
         },
         Argument::Malformed => Line::Wrong,
@@ -113,23 +118,29 @@ pub fn two_arguments(keyword: &[u8], n: Argument, m: Argument, reach: u32) -> Li
 }
 
 // The first argument is a number, the others may be none.
-fn after_first(keyword: &[u8], a: u32, m: Argument, l: Argument, reach: u32) -> Line
-    ensures { λ r. ⌜ r ≡ threeArguments (now (keyword .entry)) (Argument.Value a) m l reach ⌝ }
+fn after_first(keyword: &[u8], a: u32, m: Argument, l: Argument, ranges: Ranges) -> Line
+    ensures { λ r. ⌜ r ≡ threeArguments (now (keyword .entry)) (Argument.Value a) m l ranges ⌝ }
 {
     match m {
         Argument::Value(y) => match l {
-            Argument::Value(sum) => with_three(keyword, a, y, sum, reach),
+            Argument::Value(sum) => with_three(keyword, a, y, sum, ranges),
             Argument::Malformed => Line::Wrong,
         },
         Argument::Malformed => Line::Wrong,
     }
 }
 
-pub fn three_arguments(keyword: &[u8], n: Argument, m: Argument, l: Argument, reach: u32) -> Line
-    ensures { λ r. ⌜ r ≡ threeArguments (now (keyword .entry)) n m l reach ⌝ }
+pub fn three_arguments(
+    keyword: &[u8],
+    n: Argument,
+    m: Argument,
+    l: Argument,
+    ranges: Ranges,
+) -> Line
+    ensures { λ r. ⌜ r ≡ threeArguments (now (keyword .entry)) n m l ranges ⌝ }
 {
     match n {
-        Argument::Value(a) => after_first(keyword, a, m, l, reach),
+        Argument::Value(a) => after_first(keyword, a, m, l, ranges),
         Argument::Malformed => Line::Wrong,
     }
 }

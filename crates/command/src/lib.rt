@@ -4,4 +4,5 @@ pub mod argument;
 pub mod command;
 pub mod keyword;
 pub mod line;
-pub mod words;
+pub mod ranges;
+pub mod traits;

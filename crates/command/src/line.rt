@@ -9,9 +9,12 @@ use crate::command::Line;
 use crate::keyword::one_argument;
 use crate::keyword::three_arguments;
 use crate::keyword::two_arguments;
-use crate::words::word_length;
+use crate::ranges::Ranges;
+use wire::words::length_before;
 
 pub const MAX_LINE: usize = 80;
+
+const SPACE: u8 = b' ';
 
 fn is_printable(b: u8) -> bool
     ensures { λ r. ⌜ r ≡ printable b ⌝ }
@@ -43,34 +46,34 @@ pub fn bytes_ok(line: &[u8]) -> bool
 }
 
 // What a keyword with two arguments or more is: a third word that has a space behind it is no argument.
-fn parse_more(keyword: &[u8], first: Argument, rest: &[u8], reach: u32) -> Line
-    ensures { λ r. ⌜ r ≡ moreWords (now (keyword .entry)) first (lineWords (now (rest .entry))) reach ⌝ }
+fn parse_more(keyword: &[u8], first: Argument, rest: &[u8], ranges: Ranges) -> Line
+    ensures { λ r. ⌜ r ≡ moreWords (now (keyword .entry)) first (lineWords (now (rest .entry))) ranges ⌝ }
 {
-    let n = word_length(rest);
+    let n = length_before(rest, SPACE);
     if rest.len() <= n {
-        return two_arguments(keyword, first, argument_of(rest), reach);
+        return two_arguments(keyword, first, argument_of(rest), ranges);
     }
     let second = argument_of(&rest[..n]);
     let third = argument_of(&rest[n + 1..]);
-    three_arguments(keyword, first, second, third, reach)
+    three_arguments(keyword, first, second, third, ranges)
 }
 
-// What the line is, at this reach.
-pub fn parse(line: &[u8], reach: u32) -> Line
-    ensures { λ r. ⌜ r ≡ lineOf (now (line .entry)) reach ⌝ }
+// What the line is, in these ranges.
+pub fn parse(line: &[u8], ranges: Ranges) -> Line
+    ensures { λ r. ⌜ r ≡ lineOf (now (line .entry)) ranges ⌝ }
 {
     if line.len() == 0 {
         return Line::Empty;
     }
-    let k = word_length(line);
+    let k = length_before(line, SPACE);
     if line.len() <= k {
         return Line::Wrong;
     }
     let keyword = &line[..k];
     let rest = &line[k + 1..];
-    let m = word_length(rest);
+    let m = length_before(rest, SPACE);
     if rest.len() <= m {
-        return one_argument(keyword, argument_of(rest), reach);
+        return one_argument(keyword, argument_of(rest), ranges);
     }
-    parse_more(keyword, argument_of(&rest[..m]), &rest[m + 1..], reach)
+    parse_more(keyword, argument_of(&rest[..m]), &rest[m + 1..], ranges)
 }

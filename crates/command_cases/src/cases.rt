@@ -7,6 +7,7 @@ ghost use Rattle.load.specs.Staging.{formed, placeable};
 ghost use Rattle.tables.specs.Tables.{tableBytes};
 use crate::output;
 use command::line::MAX_LINE;
+use command::ranges::Ranges;
 use load::staging;
 use load::staging::Addresses;
 use wire::read::u16_at;
@@ -14,6 +15,9 @@ use wire::read::u24_at;
 use wire::read::u32_at;
 
 const TABLE_BYTES: usize = 62985;
+
+// LIMHI's largest value in these cases.
+const LIMHI_MOST: u16 = 0x2c0;
 
 // 1: the reach in three bytes, and the line. Prints whether its bytes are right, and what it is.
 fn line_case(body: &[u8]) {
@@ -27,7 +31,11 @@ fn line_case(body: &[u8]) {
     } else {
         output::text(b"bytes wrong, ");
     }
-    output::line(command::line::parse(line, u24_at(body, 0)));
+    let ranges = Ranges {
+        reach: u24_at(body, 0),
+        limhi: LIMHI_MOST,
+    };
+    output::line(command::line::parse(line, ranges));
 }
 
 fn show(echo: &[u8]) {

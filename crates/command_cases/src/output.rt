@@ -1,6 +1,5 @@
 // What the program prints.
 ghost use Prim.Native.Nat.{_<_};
-use command::command::Command;
 use command::command::Line;
 use command::command::Setting;
 use io::print_decimal;
@@ -49,24 +48,14 @@ fn setting(k: Setting) {
     }
 }
 
-fn waiting(c: Command) {
-    match c {
-        Command::Set(k, n) => {
-            setting(k);
-            number(n as u32);
-        }
-        Command::Load(a, y) => {
-            labelled(b"load ", a);
-            labelled(b" ", y as u32);
-        }
-    }
-}
-
 pub fn line(l: Line) {
     match l {
         Line::Empty => text(b"empty"),
         Line::Wrong => text(b"wrong"),
-        Line::Waits(c) => waiting(c),
+        Line::Change(k, n) => {
+            setting(k);
+            number(n as u32);
+        }
         Line::LoadZero => text(b"load 0"),
         Line::LoadAt(a) => labelled(b"loadat ", a),
         Line::Ask => text(b"ask"),

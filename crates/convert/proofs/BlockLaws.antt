@@ -11,8 +11,8 @@ use Rattle.wire.specs.Bytes.{put}
 use Rattle.wire.proofs.Lists.{choice}
 use Rattle.packet.specs.Layout.{packetBytes}
 use Rattle.decode.specs.Read.{applicationOf, kindOf}
-use Rattle.ground.specs.Convert.{rateCountOf, recoded, convertNumber, convertDone}
-use Rattle.ground.proofs.Recoded.{rates-fit, length-recoded}
+use Rattle.converter.specs.Convert.{rateCountOf, recoded, convertNumber, convertDone}
+use Rattle.converter.proofs.Recoded.{rates-fit, length-recoded}
 use Rattle.convert.specs.declared.counts.Counts.{Counts}
 use Rattle.convert.specs.Block.{written, counted, writtenAll, countedAll}
 

@@ -8,7 +8,7 @@ use lib.ListN.{take, drop}
 use Rattle.causes.specs.Causes.{carriedOut, noHeader, packetSum, bodyFault, noFirstCode}
 use Rattle.packet.specs.Layout.{packetBytes}
 use Rattle.decode.specs.Read.{readNumber}
-use Rattle.ground.specs.Convert.{convertDone}
+use Rattle.converter.specs.Convert.{convertDone}
 use Rattle.convert.specs.declared.counts.Counts.{Counts}
 
 -- ---- one packet

@@ -6,7 +6,7 @@ ghost use Rattle.packet.specs.Layout.{packetBytes};
 ghost use Rattle.convert.specs.Block.{written, counted, writtenAll, countedAll};
 use crate::counts::Counts;
 use crate::counts::counted;
-use ground::convert::convert_accepted;
+use converter::convert_accepted;
 use packet::layout::PACKET_BYTES;
 use wire::write::put_bytes;
 

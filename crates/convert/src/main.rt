@@ -9,14 +9,13 @@ mod report;
 
 use buffered::input::read_full;
 use buffered::text::print;
-use buffered::transfer::tell;
 use buffered::turns::MOST_TURNS;
 use buffered::turns::left;
-use command::words::same;
 use libc::STDIN_FILENO;
 use packet::layout::PACKET_BYTES;
 use rate_code::editions::CONVERTED_MARK;
 use rate_code::editions::FIRST_MARK;
+use wire::words::same;
 
 // So many packets are read and written at a time.
 const BLOCK_PACKETS: usize = 480;
@@ -38,10 +37,7 @@ fn run(wanted: u8, block: &mut [u8], out: &mut [u8])
     let mut turns = MOST_TURNS;
     let mut rest: usize = 0;
     while 0 < turns {
-        let filled = read_full(STDIN_FILENO, block);
-        if filled.failed {
-            tell(b"cannot read standard input");
-        }
+        let filled = read_full(STDIN_FILENO, block, b"cannot read standard input");
         let n = filled.bytes;
         counts = block::write_block(wanted, &block[..n], &mut out[..n], counts);
         if !print(&out[..n]) {

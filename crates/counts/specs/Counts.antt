@@ -6,7 +6,7 @@ use lib.Dec.{leb}
 use Rattle.wire.specs.Lists.{bump}
 use Rattle.sort.specs.declared.sorting.Outcome.{Outcome}
 use Rattle.sort.specs.declared.sorting.Outcome.the-variants.{Discarded, OutOfBounds, InCell}
-use Rattle.sort.specs.Boxes.{discardedBox, outOfBoundsBox}
+use Rattle.boxes.specs.Boxes.{discardedBox, outOfBoundsBox}
 use Rattle.counts.specs.declared.Counts.{Counts}
 
 -- rule 2: gain 0 is box 3, gain 1 box 4; rule 5: priority 0 is box 1, priority 1 box 2

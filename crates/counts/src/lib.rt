@@ -2,17 +2,20 @@
 ghost use mathlib.Core.Path.{_≡_};
 ghost use Prim.Native.Nat.{_≤_};
 ghost use Rattle.wire.specs.Lists.{EachBelow};
+ghost use Rattle.boxes.specs.Boxes.{boxCount, beaconCount};
 ghost use Rattle.sort.specs.Boxes.{CellNames, OutcomeNames};
 ghost use Rattle.counts.specs.Counts.{withBox, withBeacon, gainBox, priorityBox, countedOf};
-use sort::boxes::DISCARDED_BOX;
-use sort::boxes::OUT_OF_BOUNDS_BOX;
+use boxes::BEACONS;
+use boxes::BOXES;
+use boxes::DISCARDED_BOX;
+use boxes::OUT_OF_BOUNDS_BOX;
 use sort::matrix::Cell;
 use sort::sorting::Outcome;
 
 // Box b is counted at index b - 1, and beacon n at index n - 1.
 pub struct Counts {
-    pub boxes: [u32; 116],
-    pub beacons: [u32; 12],
+    pub boxes: [u32; BOXES],
+    pub beacons: [u32; BEACONS],
 }
 
 // Boxes 3 and 4 count the events of each gain.
@@ -31,7 +34,7 @@ fn priority_box(priority: bool) -> u8
 
 // One more in box b.
 fn with_box(c: Counts, b: u8) -> Counts
-    requires { ⌜ (1 ≤ b) × (b ≤ 116) ⌝ }
+    requires { ⌜ (1 ≤ b) × (b ≤ boxCount) ⌝ }
     requires { ⌜ EachBelow 4294967295 (c .boxes) ⌝ }
     ensures { λ r. ⌜ r ≡ withBox c b ⌝ }
 {
@@ -44,7 +47,7 @@ fn with_box(c: Counts, b: u8) -> Counts
 
 // One more in each of three boxes. In one function the compiled program copies the counts once.
 fn with_boxes(c: Counts, x: u8, y: u8, z: u8) -> Counts
-    requires { ⌜ (1 ≤ x) × (x ≤ 116) × (1 ≤ y) × (y ≤ 116) × (1 ≤ z) × (z ≤ 116) ⌝ }
+    requires { ⌜ (1 ≤ x) × (x ≤ boxCount) × (1 ≤ y) × (y ≤ boxCount) × (1 ≤ z) × (z ≤ boxCount) ⌝ }
     requires { ⌜ EachBelow 1000000 (c .boxes) ⌝ }
     ensures { λ r. ⌜ r ≡ withBox (withBox (withBox c x) y) z ⌝ }
 {
@@ -63,7 +66,7 @@ fn with_boxes(c: Counts, x: u8, y: u8, z: u8) -> Counts
 
 // One more in the beacon, if it is one of 1 to 12 and not 0.
 fn with_beacon(c: Counts, beacon: u8) -> Counts
-    requires { ⌜ beacon ≤ 12 ⌝ }
+    requires { ⌜ beacon ≤ beaconCount ⌝ }
     requires { ⌜ EachBelow 4294967295 (c .beacons) ⌝ }
     ensures { λ r. ⌜ r ≡ withBeacon c beacon ⌝ }
 {

@@ -14,21 +14,22 @@ use Rattle.wire.proofs.Bytes.{value16, value24}
 use Rattle.wire.proofs.Lists.{all-get, map-at, each-append}
 use Rattle.wire.proofs.Pieces.{table-is, each-all}
 use Rattle.settings.specs.declared.Settings.{Settings}
-use Rattle.settings.specs.Settings.{slotCount}
+use Rattle.boxes.specs.Boxes.{beaconCount}
 use Rattle.sample_record.specs.Record.{recordGood}
 use Rattle.packet.specs.declared.stamp.Stamp.{Stamp}
 use Rattle.rate_code.specs.Rate.{countLimit}
-use Rattle.rate_code.specs.Editions.{convertedMark, codeBy, leastBy, validBy}
+use Rattle.rate_code.specs.Editions.{codeBy, leastBy, validBy}
 use Rattle.packet.specs.Layout.{bodyAt, innerBytes, secondaryFlag, bodyBytes, codeBytes}
-use Rattle.packet.specs.Layout.{rateCount, recordCount, beaconCount, beaconEnd, beaconUnused}
+use Rattle.packet.specs.Layout.{rateCount, recordCount, beaconEnd, beaconUnused}
 use Rattle.packet.specs.Layout.{gapAt, hvstepAt, limhiAt, hvFlag, eonlyFlag, toferrorFlag, junkFlag}
-use Rattle.packet.specs.Packet.{rateApplication, sampleApplication, beaconApplication, lastSample, stampOf, trailer, packetOf}
+use Rattle.packet.specs.Packet.{rateApplication, sampleApplication, beaconApplication, applicationOfSample, stampOf, trailer, packetOf}
 use Rattle.packet.specs.Packet.{codes, settingsFlags, settingsBytes, rateBody, beaconBody}
 use Rattle.decode.specs.declared.kind.Kind.{Kind}
 use Rattle.decode.specs.declared.kind.Kind.the-variants.{Rate, Sample, Beacon}
 use Rattle.decode.specs.Read.{applicationOf, kindOf, isKind, flagByte, ratesOf, settingsOf, sumOf, markOf, lastOf, endGood}
 use Rattle.decode.specs.Read.{codesGood, zerosGood, recordsGood, rateGood, sampleGood, beaconGood, bodyGood, readNumber}
-use Rattle.packet.specs.Ranges.{StampFits, RateValues, SampleValues, BeaconValues}
+use Rattle.decode.specs.Limits.{lastSample, largestLimhi, lastMark}
+use Rattle.decode.specs.Ranges.{StampFits, RateValues, SampleValues, BeaconValues}
 use Rattle.rate_code.proofs.EditionLaws.{by-valid}
 use Rattle.packet.proofs.Written.{length-codes, codes-append, length-inner}
 use Rattle.packet.proofs.Written.{length-rate-body, length-sample-body, length-beacon-body}
@@ -46,15 +47,15 @@ pub beacon-kind : kindOf beaconApplication ≡ Beacon
 unfolding kindOf
 beacon-kind = refl
 
-pub sample-kind : (p : ℕ) → p ≤ lastSample → kindOf (sampleApplication + p) ≡ Sample
+pub sample-kind : (p : ℕ) → p ≤ lastSample → kindOf (applicationOfSample p) ≡ Sample
 unfolding kindOf
 sample-kind p h =
-    let n : ℕ = sampleApplication + p in
+    let n : ℕ = applicationOfSample p in
     rw (
       ne-eqb n rateApplication (λ e. omega arith),
       ne-eqb n beaconApplication (λ e. omega arith),
       le-leb sampleApplication n (omega arith),
-      le-leb n (sampleApplication + lastSample) (omega arith),
+      le-leb n (applicationOfSample lastSample) (omega arith),
     )
 
 -- the stamp of a frame and a time fits
@@ -98,17 +99,17 @@ module _ (a : ℕ) (st : Stamp) (body : List ℕ) (lb : length body ≡ bodyByte
   last-zero : (marks : ℕ) → StampFits marks st → lastOf P ≡ 0
   last-zero marks h = back.last-back a st body lb ∙ h .last-is
 
-  end-back : StampFits convertedMark st → endGood P ≡ true
+  end-back : StampFits lastMark st → endGood P ≡ true
   end-back h =
-      both (le-leb (markOf P) convertedMark (omega (arith, back.mark-back a st body lb, h .mark-fits)))
-      (eq-eqb _ _ (last-zero convertedMark h))
+      both (le-leb (markOf P) lastMark (omega (arith, back.mark-back a st body lb, h .mark-fits)))
+      (eq-eqb _ _ (last-zero lastMark h))
 
 -- ---- a rate packet
 
 pub flags-le : (s : Settings) → (bitOf (s .hv) ≤ 1) × (bitOf (s .eonly) ≤ 1) × (bitOf (s .toferror) ≤ 1) × (bitOf (s .junk) ≤ 1)
 flags-le s = (bit-small (s .hv), bit-small (s .eonly), bit-small (s .toferror), bit-small (s .junk))
 
-module _ (st : Stamp) (fits : StampFits convertedMark st) (totals boxes : List ℕ) (s : Settings) (sum : ℕ) (v : RateValues totals boxes s sum) where
+module _ (st : Stamp) (fits : StampFits lastMark st) (totals boxes : List ℕ) (s : Settings) (sum : ℕ) (v : RateValues totals boxes s sum) where
   abbrev rate-body : List ℕ
   rate-body = rateBody (st .mark) totals boxes s sum
 
@@ -179,7 +180,7 @@ module _ (st : Stamp) (fits : StampFits convertedMark st) (totals boxes : List �
       both (both (both (both (rate-codes .0)
       (eq-eqb _ _ gap-back))
       (eq-eqb _ _ (ap (λ (n : ℕ). n % junkFlag) flags-back ∙ omega arith)))
-      (le-leb (at16 rate-is limhiAt) slotCount (omega (arith, limhi-back, v .limhi-fits))))
+      (le-leb (at16 rate-is limhiAt) largestLimhi (omega (arith, limhi-back, v .limhi-fits))))
       (end-back rateApplication st rate-body rate-length (omega arith) fits)
 
   pub rate-number : readNumber rate-is ≡ 0
@@ -190,7 +191,7 @@ module _ (st : Stamp) (fits : StampFits convertedMark st) (totals boxes : List �
 
 module _ (st : Stamp) (fits : StampFits lastSample st) (records : List ℕ) (v : SampleValues records) where
   abbrev number-is : ℕ
-  number-is = sampleApplication + st .mark
+  number-is = applicationOfSample (st .mark)
 
   abbrev samples-are : List ℕ
   samples-are = packetOf number-is st (words records)
@@ -215,7 +216,7 @@ module _ (st : Stamp) (fits : StampFits lastSample st) (records : List ℕ) (v :
       let l = sample-length in
       let m = back.mark-back number-is st (words records) l in
       both (both
-      (eq-eqb _ _ (application-back number-is st (words records) l application-fits ∙ ap (λ (n : ℕ). sampleApplication + n) (sym m)))
+      (eq-eqb _ _ (application-back number-is st (words records) l application-fits ∙ ap applicationOfSample (sym m)))
       (eq-eqb _ _ (last-zero number-is st (words records) l application-fits lastSample fits)))
       records-back
 
@@ -227,7 +228,7 @@ module _ (st : Stamp) (fits : StampFits lastSample st) (records : List ℕ) (v :
 
 -- ---- a beacon packet
 
-module _ (st : Stamp) (fits : StampFits convertedMark st) (beacons : List ℕ) (v : BeaconValues beacons) where
+module _ (st : Stamp) (fits : StampFits lastMark st) (beacons : List ℕ) (v : BeaconValues beacons) where
   abbrev beacon-body : List ℕ
   beacon-body = beaconBody (st .mark) beacons
 

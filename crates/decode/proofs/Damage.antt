@@ -21,7 +21,8 @@ use Rattle.packet.specs.declared.stamp.Stamp.{Stamp}
 use Rattle.packet.specs.Layout.{sumAt, packetBytes, secondaryFlag}
 use Rattle.packet.specs.Packet.{header, summed, enveloped, trailer, packetOf, codes, settingsBytes}
 use Rattle.decode.specs.Read.{sumGood, readChecks, readNumber}
-use Rattle.packet.specs.Ranges.{StampFits}
+use Rattle.decode.specs.Damage.{OneByteOff}
+use Rattle.decode.specs.Ranges.{StampFits}
 use Rattle.wire.proofs.Lists.{each-append}
 use Rattle.wire.proofs.Pieces.{words-runs}
 use Rattle.rate_code.proofs.EditionLaws.{by-fits}
@@ -69,9 +70,12 @@ module _ (xs : List ℕ) (lx : length xs ≡ packetBytes) (bytes : EachBelow 256
         ∙ sym sum-is
         ∙ ap (λ (k : ℕ). getD xs k 0) (sym h)))
 
-    -- the sum is no longer right
-    pub sum-wrong : i < packetBytes → sumGood (set xs i v) ≡ false
-    sum-wrong h = let k : i ≤ sumAt = omega arith in ⊎-elim at-sum before-sum (eq-or-lt-of-le k)
+    set-wrong : i < packetBytes → sumGood (set xs i v) ≡ false
+    set-wrong h = let k : i ≤ sumAt = omega arith in ⊎-elim at-sum before-sum (eq-or-lt-of-le k)
+
+  -- the sum is no longer right
+  pub sum-wrong : (ys : List ℕ) → OneByteOff xs ys → sumGood ys ≡ false
+  sum-wrong ys d = ap sumGood (d .rest) ∙ set-wrong (d .place) (d .byte) (d .byte-fits) (d .differs) (omega (arith, d .inside))
 
 -- what has a wrong sum gets 11 or 12
 pub wrong-number : (xs : List ℕ) → sumGood xs ≡ false → (readNumber xs ≡ noHeader) ⊎ (readNumber xs ≡ packetSum)

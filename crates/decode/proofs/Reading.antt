@@ -10,10 +10,11 @@ use Rattle.causes.specs.Checks.{Passed}
 use Rattle.causes.proofs.CheckLaws.{all-passed}
 use Rattle.wire.specs.Bytes.{at16}
 use Rattle.wire.proofs.Lists.{and-left, and-right}
-use Rattle.settings.specs.Settings.{slotCount}
-use Rattle.packet.specs.Layout.{packetBytes, rateCount, beaconCount, gapAt, limhiAt, junkFlag, beaconEnd, beaconUnused}
+use Rattle.boxes.specs.Boxes.{beaconCount}
+use Rattle.packet.specs.Layout.{packetBytes, rateCount, gapAt, limhiAt, junkFlag, beaconEnd, beaconUnused}
 use Rattle.decode.specs.declared.kind.Kind.{Kind}
 use Rattle.decode.specs.declared.kind.Kind.the-variants.{Rate, Beacon}
+use Rattle.decode.specs.Limits.{largestLimhi}
 use Rattle.decode.specs.Read.{applicationOf, kindOf, flagByte, headerGood, sumGood, codesGood, zerosGood, endGood}
 use Rattle.decode.specs.Read.{rateGood, beaconGood, bodyGood}
 use Rattle.decode.specs.Read.{readChecks, readNumber}
@@ -61,7 +62,7 @@ rate-codes xs e = and-left _ _ (and-left _ _ (and-left _ _ (and-left _ _ e)))
 pub rate-end : (xs : List ℕ) → rateGood xs ≡ true → endGood xs ≡ true
 unfolding rateGood
 rate-end xs e =
-    and-right (codesGood rateCount xs && eqb (getD xs gapAt 0) 0 && eqb (flagByte xs % junkFlag) 0 && leb (at16 xs limhiAt) slotCount)
+    and-right (codesGood rateCount xs && eqb (getD xs gapAt 0) 0 && eqb (flagByte xs % junkFlag) 0 && leb (at16 xs limhiAt) largestLimhi)
     (endGood xs) e
 
 pub beacon-codes : (xs : List ℕ) → beaconGood xs ≡ true → codesGood beaconCount xs ≡ true

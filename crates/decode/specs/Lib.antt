@@ -1,1 +1,4 @@
+pub mod Limits
+pub mod Ranges
 pub mod Read
+pub mod Damage

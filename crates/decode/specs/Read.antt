@@ -10,16 +10,17 @@ use Rattle.causes.specs.Checks.{Check, numberBy}
 use Rattle.wire.specs.Bits.{isSet}
 use Rattle.wire.specs.Bytes.{at16, at24, at32, total}
 use Rattle.wire.specs.Pieces.{table, each}
+use Rattle.boxes.specs.Boxes.{beaconCount}
 use Rattle.settings.specs.declared.Settings.{Settings}
-use Rattle.settings.specs.Settings.{slotCount}
 use Rattle.sample_record.specs.Record.{recordGood}
-use Rattle.rate_code.specs.Editions.{convertedMark, leastBy, validBy}
+use Rattle.rate_code.specs.Editions.{leastBy, validBy}
 use Rattle.packet.specs.Layout.{applicationAt, sequenceAt, lengthAt, timeAt, zeroAt, bodyAt, sumAt, packetBytes}
 use Rattle.packet.specs.Layout.{frameAt, markAt, lastAt}
 use Rattle.packet.specs.Layout.{secondaryFlag, sequenceFlags, sequenceCounts, lengthField}
-use Rattle.packet.specs.Layout.{codeBytes, recordBytes, rateCount, recordCount, beaconCount, beaconEnd, beaconUnused}
+use Rattle.packet.specs.Layout.{codeBytes, recordBytes, rateCount, recordCount, beaconEnd, beaconUnused}
 use Rattle.packet.specs.Layout.{gapAt, hvstepAt, flagsAt, limhiAt, tableSumAt, hvFlag, eonlyFlag, toferrorFlag, junkFlag}
-use Rattle.packet.specs.Packet.{rateApplication, sampleApplication, beaconApplication, lastSample}
+use Rattle.packet.specs.Packet.{rateApplication, sampleApplication, beaconApplication, applicationOfSample}
+use Rattle.decode.specs.Limits.{lastSample, largestLimhi, lastMark}
 use Rattle.decode.specs.declared.kind.Kind.{Kind}
 use Rattle.decode.specs.declared.kind.Kind.the-variants.{Rate, Sample, Beacon, None}
 
@@ -49,7 +50,7 @@ unfoldable pub kindOf : ℕ → Kind
 kindOf a =
     cond (eqb a rateApplication) Rate
     (cond (eqb a beaconApplication) Beacon
-    (cond (leb sampleApplication a && leb a (sampleApplication + lastSample)) Sample None))
+    (cond (leb sampleApplication a && leb a (applicationOfSample lastSample)) Sample None))
 
 -- whether it is a kind at all
 abbrev pub isKind : Kind → Bool
@@ -129,7 +130,7 @@ recordsGood n xs = each n (λ i. recordGood (recordAt xs i))
 
 -- byte 269 is the mark of an edition (document 02, Points 5 and 6); byte 270 has no use
 abbrev pub endGood : List ℕ → Bool
-endGood xs = leb (markOf xs) convertedMark && eqb (lastOf xs) 0
+endGood xs = leb (markOf xs) lastMark && eqb (lastOf xs) 0
 
 -- byte 259 and the flags below junk's have no use in a rate packet; "LIMHI over 704" is a fault
 unfoldable pub rateGood : List ℕ → Bool
@@ -137,13 +138,13 @@ rateGood xs =
     codesGood rateCount xs
     && eqb (getD xs gapAt 0) 0
     && eqb (flagByte xs % junkFlag) 0
-    && leb (at16 xs limhiAt) slotCount
+    && leb (at16 xs limhiAt) largestLimhi
     && endGood xs
 
 -- "application number other than 606 + p" is a fault; byte 270 has no use
 unfoldable pub sampleGood : List ℕ → Bool
 sampleGood xs =
-    eqb (applicationOf xs) (sampleApplication + markOf xs) && eqb (lastOf xs) 0 && recordsGood recordCount xs
+    eqb (applicationOf xs) (applicationOfSample (markOf xs)) && eqb (lastOf xs) 0 && recordsGood recordCount xs
 
 -- bytes 35 to 266 have no use
 unfoldable pub beaconGood : List ℕ → Bool

@@ -11,17 +11,20 @@ use crate::fields::application;
 use crate::kind::Kind;
 use crate::kind::is_kind;
 use crate::kind::kind_of;
+use crate::limits::LARGEST_LIMHI;
+use crate::limits::LAST_MARK;
+use boxes::BEACONS;
+use boxes::LAST_BOX;
+use boxes::OUT_OF_BOUNDS_BOX;
 use causes::unless;
-use packet::applications::SAMPLE_APPLICATION;
+use packet::applications::of_sample;
 use packet::layout;
 use rate_code::editions;
-use sample_record::FIRST_BOX;
-use sample_record::LAST_BOX;
 use wire::bits::wide8;
 use wire::read::u16_at;
 
 // A record of box 6 whose last byte is read as the highest is at least this, and one of box 116 is below the next.
-const LEAST_MIRRORED: u32 = 2 * (FIRST_BOX as u32) * 16777216;
+const LEAST_MIRRORED: u32 = 2 * (OUT_OF_BOUNDS_BOX as u32) * 16777216;
 
 const MIRRORED_END: u32 = 2 * (LAST_BOX as u32 + 1) * 16777216;
 
@@ -128,7 +131,7 @@ fn end_good(packet: &[u8]) -> bool
     requires { ⌜ length (now packet) ≡ packetBytes ⌝ }
     ensures { λ r. ⌜ r ≡ endGood (now (packet .entry)) ⌝ }
 {
-    (packet[layout::MARK_AT] <= editions::CONVERTED_MARK) & (packet[layout::LAST_AT] == 0)
+    (packet[layout::MARK_AT] <= LAST_MARK) & (packet[layout::LAST_AT] == 0)
 }
 
 // The body of a rate packet: its codes, LIMHI, and what has no use.
@@ -139,7 +142,7 @@ fn rate_good(packet: &[u8]) -> bool
     codes_good(packet, layout::RATES)
         & (packet[layout::GAP_AT] == 0)
         & (packet[layout::FLAGS_AT] % layout::JUNK == 0)
-        & (u16_at(packet, layout::LIMHI_AT) <= settings::SLOTS)
+        & (u16_at(packet, layout::LIMHI_AT) <= LARGEST_LIMHI)
         & end_good(packet)
 }
 
@@ -148,7 +151,7 @@ fn sample_good(packet: &[u8]) -> bool
     requires { ⌜ length (now packet) ≡ packetBytes ⌝ }
     ensures { λ r. ⌜ r ≡ sampleGood (now (packet .entry)) ⌝ }
 {
-    (application(packet) == SAMPLE_APPLICATION + packet[layout::MARK_AT] as u16)
+    (application(packet) == of_sample(packet[layout::MARK_AT]))
         & (packet[layout::LAST_AT] == 0)
         & records_good(packet, layout::RECORDS)
 }
@@ -158,7 +161,7 @@ fn beacon_good(packet: &[u8]) -> bool
     requires { ⌜ length (now packet) ≡ packetBytes ⌝ }
     ensures { λ r. ⌜ r ≡ beaconGood (now (packet .entry)) ⌝ }
 {
-    codes_good(packet, layout::BEACONS)
+    codes_good(packet, BEACONS)
         & zeros_good(packet, layout::BEACON_END, layout::BEACON_UNUSED)
         & end_good(packet)
 }

@@ -1,10 +1,11 @@
 // The kinds of packet, by application number.
 ghost use mathlib.Core.Path.{_≡_};
 ghost use Rattle.decode.specs.Read.{kindOf, isKind};
+use crate::limits::LAST_SAMPLE;
 use packet::applications::BEACON_APPLICATION;
-use packet::applications::LAST_SAMPLE;
 use packet::applications::RATE_APPLICATION;
 use packet::applications::SAMPLE_APPLICATION;
+use packet::applications::of_sample;
 
 pub enum Kind {
     Rate,
@@ -23,9 +24,7 @@ pub fn kind_of(application: u16) -> Kind
     if application == BEACON_APPLICATION {
         return Kind::Beacon;
     }
-    if (SAMPLE_APPLICATION <= application)
-        & (application <= SAMPLE_APPLICATION + LAST_SAMPLE as u16)
-    {
+    if (SAMPLE_APPLICATION <= application) & (application <= of_sample(LAST_SAMPLE)) {
         return Kind::Sample;
     }
     Kind::None

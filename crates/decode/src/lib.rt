@@ -2,3 +2,4 @@
 pub mod faults;
 pub mod fields;
 pub mod kind;
+pub mod limits;

@@ -8,7 +8,7 @@ use Rattle.tables.specs.Tables.{tableBytes}
 use Rattle.listing_packet.specs.Listing.{listingPackets, listingPacket}
 use Rattle.listing_packet.proofs.Listed.{listing-accepted}
 use Rattle.processor.specs.Listing.{listingDone}
-use Rattle.processor.proofs.CallLaws.{listing-lists}
+use Rattle.processor.proofs.CallLaws as passed
 use Rattle.downlink.specs.Downlink.{Listed, ListingReceived}
 
 pub listing-listed : (frame time i : ℕ) → i < listingPackets → (tables : List ℕ) → length tables ≡ tableBytes
@@ -20,6 +20,6 @@ listing-listed frame time i h tables lt = record {
 
 pub listing-received : ListingReceived
 unfolding listingDone
-listing-received s i time tables out z =
-    let p = listing-lists s i (length tables) (length out) z in
-    rw (eq-eqb _ _ z) (listing-listed (s .frame) time i (p .listed) tables (p .tables-are))
+listing-received w i time out z =
+    let p = passed.listing-accepted (w .state) i _ _ z in
+    rw (eq-eqb _ _ z) (listing-listed (w .state .frame) time i (p .listed) (w .buffers .tables) (p .tables-are))

@@ -6,16 +6,18 @@ use native.Mathlib.Omega.{arith}
 use lib.ListN.{length}
 use Rattle.causes.specs.Causes.{carriedOut}
 use Rattle.wire.specs.Bytes.{words, zeros}
+use Rattle.boxes.specs.Boxes.{beaconCount}
 use Rattle.settings.specs.declared.Settings.{Settings}
 use Rattle.decode.specs.declared.kind.Kind.{Kind}
 use Rattle.decode.specs.declared.kind.Kind.the-variants.{Rate, Sample, Beacon}
 use Rattle.wire.specs.Pieces.{table, each}
-use Rattle.rate_code.specs.Editions.{convertedMark, leastBy, validBy}
+use Rattle.rate_code.specs.Editions.{leastBy, validBy}
 use Rattle.packet.specs.declared.stamp.Stamp.{Stamp}
-use Rattle.packet.specs.Layout.{secondaryFlag, sequenceCounts, innerBytes, bodyBytes, rateCount, beaconCount}
-use Rattle.packet.specs.Packet.{rateApplication, sampleApplication, beaconApplication, packetOf, rateBody, beaconBody}
+use Rattle.packet.specs.Layout.{secondaryFlag, sequenceCounts, innerBytes, bodyBytes, rateCount}
+use Rattle.packet.specs.Packet.{rateApplication, applicationOfSample, beaconApplication, packetOf, rateBody, beaconBody}
 use Rattle.packet.specs.Packet.{trailer, codes, ratePacket, samplePacket, beaconPacket}
-use Rattle.packet.specs.Ranges.{StampFits}
+use Rattle.decode.specs.Limits.{lastMark}
+use Rattle.decode.specs.Ranges.{StampFits}
 use Rattle.packet.proofs.Written.{length-inner}
 use Rattle.decode.specs.Read.{codeAt, ratesOf, codesGood}
 use Rattle.decode.proofs.Back as fields
@@ -67,7 +69,7 @@ rate-back st totals boxes s sum h v =
 pub sample-back : SampleBack
 unfolding contents samplePacket
 sample-back st records h v =
-    let a : ℕ = sampleApplication + st .mark in
+    let a : ℕ = applicationOfSample (st .mark) in
     let B : List ℕ = words records in
     let P : List ℕ = packetOf a st B in
     let l = kinds.sample-length st h records v in
@@ -96,7 +98,7 @@ beacon-back st beacons h v =
     )
 
 -- a stamp without a mark fits the stamps of both editions
-unmarked-fits : (st : Stamp) → StampFits 0 st → StampFits convertedMark st
+unmarked-fits : (st : Stamp) → StampFits 0 st → StampFits lastMark st
 unmarked-fits st h = record {
   sequence-fits = h .sequence-fits;
   time-fits = h .time-fits;

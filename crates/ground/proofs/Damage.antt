@@ -11,17 +11,18 @@ use Rattle.wire.specs.Bytes.{words, zeros}
 use Rattle.wire.specs.Lists.{EachBelow}
 use Rattle.wire.proofs.Lists.{each-append, each-zeros}
 use Rattle.packet.specs.declared.stamp.Stamp.{Stamp}
-use Rattle.packet.specs.Layout.{packetBytes, secondaryFlag, bodyBytes, beaconUnused}
-use Rattle.packet.specs.Packet.{rateApplication, sampleApplication, beaconApplication, lastSample, trailer, packetOf}
-use Rattle.rate_code.specs.Editions.{convertedMark}
+use Rattle.packet.specs.Layout.{secondaryFlag, bodyBytes, beaconUnused}
+use Rattle.packet.specs.Packet.{rateApplication, applicationOfSample, beaconApplication, trailer, packetOf}
 use Rattle.packet.specs.Packet.{codes, settingsBytes, rateBody, beaconBody, ratePacket, samplePacket, beaconPacket}
 use Rattle.decode.specs.Read.{sumGood, readNumber}
-use Rattle.packet.specs.Ranges.{StampFits}
+use Rattle.decode.specs.Damage.{OneByteOff}
+use Rattle.decode.specs.Limits.{lastSample, lastMark}
+use Rattle.decode.specs.Ranges.{StampFits}
 use Rattle.packet.proofs.Written.{length-inner, length-packet, length-rate-body, length-sample-body, length-beacon-body}
 use Rattle.decode.proofs.Back.{sum-back}
 use Rattle.decode.proofs.Damage.{sum-wrong, wrong-number, bytes-codes, bytes-words, bytes-settings, bytes-packet}
 use Rattle.ground.specs.Ground.{refused, readOf}
-use Rattle.ground.specs.Theorems.{OneByteOff, Refused, DamageRefused, RateDamageRefused, SampleDamageRefused, BeaconDamageRefused}
+use Rattle.ground.specs.Theorems.{Refused, DamageRefused, RateDamageRefused, SampleDamageRefused, BeaconDamageRefused}
 use Rattle.ground.proofs.Answers.{read-refused, no-records}
 
 -- a wrong sum
@@ -36,9 +37,7 @@ wrong-refused ys e =
     )
 
 pub damage-refused : DamageRefused
-damage-refused xs ys l b e d =
-    let inside : d .place < packetBytes = omega (arith, d .inside) in
-    wrong-refused ys (ap sumGood (d .rest) ∙ sum-wrong xs l b e (d .place) (d .byte) (d .byte-fits) (d .differs) inside)
+damage-refused xs ys l b e d = wrong-refused ys (sum-wrong xs l b e ys d)
 
 -- of a packet of any kind, by its body
 packet-damage : (a marks : ℕ) (st : Stamp) (body ys : List ℕ) → a < secondaryFlag → marks < 256 → length body ≡ bodyBytes
@@ -53,14 +52,14 @@ rate-damage-refused st totals boxes s sum ys h v d =
     let S = bytes-settings s sum (omega (arith, v .limhi-fits)) (v .hvstep-fits) (v .sum-fits) in
     let C = each-append 256 (codes (st .mark) totals) (codes (st .mark) boxes) (bytes-codes (st .mark) totals (v .totals-fit))
     (bytes-codes (st .mark) boxes (v .boxes-fit)) in
-    packet-damage rateApplication convertedMark st (rateBody (st .mark) totals boxes s sum) ys (omega arith) (omega arith)
+    packet-damage rateApplication lastMark st (rateBody (st .mark) totals boxes s sum) ys (omega arith) (omega arith)
     (length-rate-body (st .mark) totals boxes s sum (v .totals-are) (v .boxes-are)) h
     (each-append 256 (codes (st .mark) totals ++ codes (st .mark) boxes) (settingsBytes s sum) C S) d
 
 pub sample-damage-refused : SampleDamageRefused
 unfolding samplePacket
 sample-damage-refused st records ys h v d =
-    packet-damage (sampleApplication + st .mark) lastSample st (words records) ys (omega (arith, h .mark-fits)) (omega arith)
+    packet-damage (applicationOfSample (st .mark)) lastSample st (words records) ys (omega (arith, h .mark-fits)) (omega arith)
     (length-sample-body records (v .records-are)) h (bytes-words records (v .records-fit)) d
 
 pub beacon-damage-refused : BeaconDamageRefused
@@ -68,5 +67,5 @@ unfolding beaconPacket
 beacon-damage-refused st beacons ys h v d =
     let Z = each-zeros 256 beaconUnused (omega arith) in
     let B = each-append 256 (codes (st .mark) beacons) (zeros beaconUnused) (bytes-codes (st .mark) beacons (v .beacons-fit)) Z in
-    packet-damage beaconApplication convertedMark st (beaconBody (st .mark) beacons) ys (omega arith) (omega arith)
+    packet-damage beaconApplication lastMark st (beaconBody (st .mark) beacons) ys (omega arith) (omega arith)
     (length-beacon-body (st .mark) beacons (v .beacons-are)) h B d

@@ -6,10 +6,11 @@ use lib.Dec.{eqb}
 use lib.ListN.{take, drop}
 use Rattle.causes.specs.Causes.{carriedOut}
 use Rattle.wire.specs.Bytes.{zeros}
+use Rattle.boxes.specs.Boxes.{beaconCount}
 use Rattle.settings.specs.declared.Settings.{Settings}
 use Rattle.decode.specs.declared.kind.Kind.{Kind}
 use Rattle.decode.specs.declared.kind.Kind.the-variants.{Rate, Sample, Beacon, None}
-use Rattle.packet.specs.Layout.{bodyAt, bodyBytes, rateCount, beaconCount}
+use Rattle.packet.specs.Layout.{bodyAt, bodyBytes, rateCount}
 use Rattle.decode.specs.Read.{applicationOf, sequenceOf, timeOf, frameOf, markOf, kindOf, ratesOf, settingsOf, sumOf, readNumber}
 use Rattle.ground.specs.declared.Packet.{Packet}
 

@@ -5,22 +5,25 @@ use mathlib.Core.Path.{_≡_}
 use mathlib.Core.Logic.{_⊎_}
 use mathlib.Core.Bool.{true}
 use mathlib.Core.List.{List, [], _++_, map}
-use lib.ListN.{length, getD, set}
+use lib.ListN.{length}
 use Rattle.causes.specs.Causes.{carriedOut, noHeader, packetSum}
 use Rattle.wire.specs.Bytes.{be16, words, zeros}
 use Rattle.wire.specs.Lists.{EachBelow}
 use Rattle.wire.specs.Pieces.{runs, table, each}
+use Rattle.boxes.specs.Boxes.{beaconCount}
 use Rattle.settings.specs.declared.Settings.{Settings}
 use Rattle.decode.specs.declared.kind.Kind.{Kind}
 use Rattle.decode.specs.declared.kind.Kind.the-variants.{Rate, Sample, Beacon}
 use Rattle.packet.specs.declared.stamp.Stamp.{Stamp}
 use Rattle.rate_code.specs.Rate.{rateCode, leastCount, codeValid}
-use Rattle.rate_code.specs.Editions.{convertedMark, codeBy, leastBy}
-use Rattle.packet.specs.Layout.{packetBytes, rateCount, beaconCount, beaconUnused}
-use Rattle.packet.specs.Packet.{rateApplication, sampleApplication, beaconApplication, lastSample, packetOf, settingsBytes}
+use Rattle.rate_code.specs.Editions.{codeBy, leastBy}
+use Rattle.packet.specs.Layout.{packetBytes, rateCount, beaconUnused}
+use Rattle.packet.specs.Packet.{rateApplication, beaconApplication, applicationOfSample, packetOf, settingsBytes}
 use Rattle.packet.specs.Packet.{ratePacket, samplePacket, beaconPacket}
 use Rattle.decode.specs.Read.{markOf, codeAt, ratesOf, codesGood, sumGood}
-use Rattle.packet.specs.Ranges.{StampFits, RateValues, SampleValues, BeaconValues}
+use Rattle.decode.specs.Damage.{OneByteOff}
+use Rattle.decode.specs.Limits.{lastSample, lastMark}
+use Rattle.decode.specs.Ranges.{StampFits, RateValues, SampleValues, BeaconValues}
 use Rattle.ground.specs.declared.Packet.{Packet}
 use Rattle.ground.specs.Ground.{noSettings, refused, readOf, recordsOf}
 
@@ -56,14 +59,14 @@ rateRead stamp totals boxes s sum =
 
 abbrev pub RateBack : Type 0
 RateBack =
-    (stamp : Stamp) (totals boxes : List ℕ) (s : Settings) (sum : ℕ) → StampFits convertedMark stamp → RateValues totals boxes s sum
+    (stamp : Stamp) (totals boxes : List ℕ) (s : Settings) (sum : ℕ) → StampFits lastMark stamp → RateValues totals boxes s sum
     → (readOf (ratePacket stamp totals boxes s sum) ≡ rateRead stamp totals boxes s sum)
     × (recordsOf (ratePacket stamp totals boxes s sum) ≡ [])
 
 -- a sample packet gives back p, and exactly the record bytes
 abbrev pub sampleRead : Stamp → Packet
 sampleRead stamp =
-    stampRead Sample (sampleApplication + stamp .mark) stamp 0 (zeros rateCount) noSettings 0 (zeros beaconCount) (stamp .mark)
+    stampRead Sample (applicationOfSample (stamp .mark)) stamp 0 (zeros rateCount) noSettings 0 (zeros beaconCount) (stamp .mark)
 
 abbrev pub SampleBack : Type 0
 SampleBack =
@@ -78,7 +81,7 @@ beaconRead stamp beacons =
 
 abbrev pub BeaconBack : Type 0
 BeaconBack =
-    (stamp : Stamp) (beacons : List ℕ) → StampFits convertedMark stamp → BeaconValues beacons
+    (stamp : Stamp) (beacons : List ℕ) → StampFits lastMark stamp → BeaconValues beacons
     → (readOf (beaconPacket stamp beacons) ≡ beaconRead stamp beacons)
     × (recordsOf (beaconPacket stamp beacons) ≡ [])
 
@@ -112,15 +115,6 @@ ArchiveCodes =
 
 -- ---- one damaged byte
 
--- ys is xs but for one byte
-pub record OneByteOff (xs ys : List ℕ) : Type 0 where
-  pub place : ℕ
-  pub byte : ℕ
-  pub inside : place < length xs
-  pub byte-fits : byte < 256
-  pub differs : byte ≡ getD xs place 0 → ⊥
-  pub rest : ys ≡ set xs place byte
-
 -- the reader refuses ys, with 11 or with 12, and hands back no records
 abbrev pub Refused : List ℕ → Type 0
 Refused ys = ((readOf ys ≡ refused noHeader) ⊎ (readOf ys ≡ refused packetSum)) × (recordsOf ys ≡ [])
@@ -133,7 +127,7 @@ DamageRefused =
 -- so of every packet that is written
 abbrev pub RateDamageRefused : Type 0
 RateDamageRefused =
-    (stamp : Stamp) (totals boxes : List ℕ) (s : Settings) (sum : ℕ) (ys : List ℕ) → StampFits convertedMark stamp → RateValues totals boxes s sum
+    (stamp : Stamp) (totals boxes : List ℕ) (s : Settings) (sum : ℕ) (ys : List ℕ) → StampFits lastMark stamp → RateValues totals boxes s sum
     → OneByteOff (ratePacket stamp totals boxes s sum) ys → Refused ys
 
 abbrev pub SampleDamageRefused : Type 0
@@ -143,5 +137,5 @@ SampleDamageRefused =
 
 abbrev pub BeaconDamageRefused : Type 0
 BeaconDamageRefused =
-    (stamp : Stamp) (beacons ys : List ℕ) → StampFits convertedMark stamp → BeaconValues beacons
+    (stamp : Stamp) (beacons ys : List ℕ) → StampFits lastMark stamp → BeaconValues beacons
     → OneByteOff (beaconPacket stamp beacons) ys → Refused ys

@@ -7,10 +7,10 @@ ghost use Rattle.decode.specs.declared.kind.Kind.the-variants.{Rate, Sample, Be
 ghost use Rattle.decode.specs.Read.{rateGood, beaconGood};
 ghost use Rattle.ground.specs.Ground.{noSettings, refused, accepted, contents};
 use crate::Packet;
+use boxes::BEACONS;
 use decode::fields;
 use decode::kind::Kind;
 use packet::layout;
-use packet::layout::BEACONS;
 use packet::layout::RATES;
 use settings::Settings;
 

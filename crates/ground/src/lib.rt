@@ -3,14 +3,12 @@ ghost use mathlib.Core.Path.{_≡_};
 ghost use Rattle.ground.specs.Ground.{readOf, isSample, samplesIn, recordsOf};
 
 mod contents;
-pub mod convert;
-pub mod gather;
 
+use boxes::BEACONS;
 use decode::faults::number;
 use decode::fields::application;
 use decode::kind::Kind;
 use decode::kind::kind_of;
-use packet::layout::BEACONS;
 use packet::layout::BODY_AT;
 use packet::layout::FRAME_AT;
 use packet::layout::RATES;

@@ -1,207 +1,196 @@
 // Lent buffers one shorter and one longer than they must be, and empty ones, over a fresh state; in each case the other
 // buffers are right. Then calls that more than one cause refuses.
 use crate::calls;
+use crate::calls::BITMAP_BYTES;
 use crate::calls::CHANNEL;
 use crate::calls::ECHO_BYTES;
-use crate::calls::MARKS_BYTES;
 use crate::calls::OUT_BYTES;
 use crate::calls::SLOTS;
 use crate::calls::STAGING_BYTES;
 use crate::calls::TABLE_BYTES;
 use crate::printing::one;
+use crate::printing::sized;
 
-fn event_tables(name: &[u8], tables: &[u8]) {
-    let mut slots = [0u32; SLOTS];
-    one(
-        name,
-        calls::event(state::fresh(), tables, &mut slots, CHANNEL),
-    );
-}
+// A package of no bytes, with its sum.
+const EMPTY_PACKAGE: [u8; 4] = [0, 2, 0, 0];
 
-fn event_slots(name: &[u8], slots: &mut [u32], t: u16) {
+// ---- calls with some of their buffers right
+
+fn event_with(slots: &mut [u32], t: u16) -> u8 {
     let tables = [0u8; TABLE_BYTES];
-    one(name, calls::event(state::fresh(), &tables, slots, t));
+    calls::event(&tables, slots, t)
 }
 
-fn line(name: &[u8], bytes: &[u8], echo: &mut [u8]) {
+fn line_with(bytes: &[u8], echo: &mut [u8]) -> u8 {
     let staging = [0u8; STAGING_BYTES];
-    let marks = [0u8; MARKS_BYTES];
-    one(
-        name,
-        calls::line(state::fresh(), bytes, &staging, &marks, echo),
-    );
+    let bitmap = [0u8; BITMAP_BYTES];
+    calls::line(bytes, &staging, &bitmap, echo)
 }
 
-fn line_staging(name: &[u8], staging: &[u8]) {
-    let marks = [0u8; MARKS_BYTES];
+fn package_with(bytes: &[u8], staging: &mut [u8]) -> u8 {
+    let mut bitmap = [0u8; BITMAP_BYTES];
     let mut echo = [0u8; ECHO_BYTES];
-    one(
-        name,
-        calls::line(state::fresh(), b"hv 1", staging, &marks, &mut echo),
-    );
+    calls::package(bytes, staging, &mut bitmap, &mut echo)
 }
 
-fn line_marks(name: &[u8], marks: &[u8]) {
+// ---- one buffer of any length
+
+fn event_tables(tables: &[u8]) {
+    let mut slots = [0u32; SLOTS];
+    let n = calls::event(tables, &mut slots, CHANNEL);
+    sized(b"event-tables-", tables.len(), n);
+}
+
+fn event_slots(slots: &mut [u32]) {
+    let n = event_with(slots, CHANNEL);
+    sized(b"event-slots-", slots.len(), n);
+}
+
+fn line_echo(echo: &mut [u8]) {
+    let n = line_with(b"hv 1", echo);
+    sized(b"line-echo-", echo.len(), n);
+}
+
+fn line_staging(staging: &[u8]) {
+    let bitmap = [0u8; BITMAP_BYTES];
+    let mut echo = [0u8; ECHO_BYTES];
+    let n = calls::line(b"hv 1", staging, &bitmap, &mut echo);
+    sized(b"line-staging-", staging.len(), n);
+}
+
+fn line_bitmap(bitmap: &[u8]) {
     let staging = [0u8; STAGING_BYTES];
     let mut echo = [0u8; ECHO_BYTES];
-    one(
-        name,
-        calls::line(state::fresh(), b"hv 1", &staging, marks, &mut echo),
-    );
+    let n = calls::line(b"hv 1", &staging, bitmap, &mut echo);
+    sized(b"line-bitmap-", bitmap.len(), n);
 }
 
-fn package_marks(name: &[u8], marks: &mut [u8]) {
+fn package_bitmap(bitmap: &mut [u8]) {
     let mut staging = [0u8; STAGING_BYTES];
     let mut echo = [0u8; ECHO_BYTES];
-    one(
-        name,
-        calls::package(
-            state::fresh(),
-            &[0, 2, 0, 0],
-            &mut staging,
-            marks,
-            &mut echo,
-        ),
-    );
+    let n = calls::package(&EMPTY_PACKAGE, &mut staging, bitmap, &mut echo);
+    sized(b"package-bitmap-", bitmap.len(), n);
 }
 
-fn package_staging(name: &[u8], bytes: &[u8], staging: &mut [u8]) {
-    let mut marks = [0u8; MARKS_BYTES];
-    let mut echo = [0u8; ECHO_BYTES];
-    one(
-        name,
-        calls::package(state::fresh(), bytes, staging, &mut marks, &mut echo),
-    );
+fn package_staging(staging: &mut [u8]) {
+    let n = package_with(&EMPTY_PACKAGE, staging);
+    sized(b"package-staging-", staging.len(), n);
 }
 
-fn package_echo(name: &[u8], echo: &mut [u8]) {
+fn package_echo(echo: &mut [u8]) {
     let mut staging = [0u8; STAGING_BYTES];
-    let mut marks = [0u8; MARKS_BYTES];
-    one(
-        name,
-        calls::package(
-            state::fresh(),
-            &[0, 2, 0, 0],
-            &mut staging,
-            &mut marks,
-            echo,
-        ),
-    );
+    let mut bitmap = [0u8; BITMAP_BYTES];
+    let n = calls::package(&EMPTY_PACKAGE, &mut staging, &mut bitmap, echo);
+    sized(b"package-echo-", echo.len(), n);
 }
 
-fn close_tables(name: &[u8], tables: &mut [u8]) {
+fn close_tables(tables: &mut [u8]) {
     let staging = [0u8; STAGING_BYTES];
     let mut slots = [0u32; SLOTS];
     let mut out = [0u8; OUT_BYTES];
-    one(
-        name,
-        calls::close(state::fresh(), tables, &staging, &mut slots, &mut out),
-    );
+    let n = calls::close(tables, &staging, &mut slots, &mut out);
+    sized(b"close-tables-", tables.len(), n);
 }
 
-fn close_staging(name: &[u8], staging: &[u8]) {
+fn close_staging(staging: &[u8]) {
     let mut tables = [0u8; TABLE_BYTES];
     let mut slots = [0u32; SLOTS];
     let mut out = [0u8; OUT_BYTES];
-    one(
-        name,
-        calls::close(state::fresh(), &mut tables, staging, &mut slots, &mut out),
-    );
+    let n = calls::close(&mut tables, staging, &mut slots, &mut out);
+    sized(b"close-staging-", staging.len(), n);
 }
 
-fn close_slots(name: &[u8], slots: &mut [u32]) {
+fn close_slots(slots: &mut [u32]) {
     let mut tables = [0u8; TABLE_BYTES];
     let staging = [0u8; STAGING_BYTES];
     let mut out = [0u8; OUT_BYTES];
-    one(
-        name,
-        calls::close(state::fresh(), &mut tables, &staging, slots, &mut out),
-    );
+    let n = calls::close(&mut tables, &staging, slots, &mut out);
+    sized(b"close-slots-", slots.len(), n);
 }
 
-fn close_output(name: &[u8], out: &mut [u8]) {
+fn close_output(out: &mut [u8]) {
     let mut tables = [0u8; TABLE_BYTES];
     let staging = [0u8; STAGING_BYTES];
     let mut slots = [0u32; SLOTS];
-    one(
-        name,
-        calls::close(state::fresh(), &mut tables, &staging, &mut slots, out),
-    );
+    let n = calls::close(&mut tables, &staging, &mut slots, out);
+    sized(b"close-output-", out.len(), n);
 }
+
+// ---- the cases
 
 fn table_cases() {
     let mut none = [0u8; 0];
     let mut short = [0u8; 62984];
     let mut long = [0u8; 62986];
-    event_tables(b"event-tables-0", &none);
-    event_tables(b"event-tables-62984", &short);
-    event_tables(b"event-tables-62986", &long);
-    close_tables(b"close-tables-0", &mut none);
-    close_tables(b"close-tables-62984", &mut short);
-    close_tables(b"close-tables-62986", &mut long);
+    event_tables(&none);
+    event_tables(&short);
+    event_tables(&long);
+    close_tables(&mut none);
+    close_tables(&mut short);
+    close_tables(&mut long);
 }
 
 fn slot_count_cases() {
     let mut none = [0u32; 0];
     let mut short = [0u32; 703];
     let mut long = [0u32; 705];
-    event_slots(b"event-slots-0", &mut none, CHANNEL);
-    event_slots(b"event-slots-703", &mut short, CHANNEL);
-    event_slots(b"event-slots-705", &mut long, CHANNEL);
-    close_slots(b"close-slots-0", &mut none);
-    close_slots(b"close-slots-703", &mut short);
-    close_slots(b"close-slots-705", &mut long);
+    event_slots(&mut none);
+    event_slots(&mut short);
+    event_slots(&mut long);
+    close_slots(&mut none);
+    close_slots(&mut short);
+    close_slots(&mut long);
 }
 
 fn staging_cases() {
     let mut none = [0u8; 0];
     let mut short = [0u8; 62984];
     let mut long = [0u8; 62986];
-    package_staging(b"package-staging-0", &[0, 2, 0, 0], &mut none);
-    package_staging(b"package-staging-62984", &[0, 2, 0, 0], &mut short);
-    package_staging(b"package-staging-62986", &[0, 2, 0, 0], &mut long);
-    close_staging(b"close-staging-0", &none);
-    close_staging(b"close-staging-62984", &short);
-    close_staging(b"close-staging-62986", &long);
+    package_staging(&mut none);
+    package_staging(&mut short);
+    package_staging(&mut long);
+    close_staging(&none);
+    close_staging(&short);
+    close_staging(&long);
 }
 
 fn echo_cases() {
     let mut none = [0u8; 0];
     let mut short = [0u8; 127];
     let mut long = [0u8; 129];
-    line(b"line-echo-0", b"hv 1", &mut none);
-    line(b"line-echo-127", b"hv 1", &mut short);
-    line(b"line-echo-129", b"hv 1", &mut long);
-    package_echo(b"package-echo-0", &mut none);
-    package_echo(b"package-echo-127", &mut short);
-    package_echo(b"package-echo-129", &mut long);
+    line_echo(&mut none);
+    line_echo(&mut short);
+    line_echo(&mut long);
+    package_echo(&mut none);
+    package_echo(&mut short);
+    package_echo(&mut long);
 }
 
 fn output_cases() {
     let mut none = [0u8; 0];
     let mut short = [0u8; 3535];
     let mut long = [0u8; 3537];
-    close_output(b"close-output-0", &mut none);
-    close_output(b"close-output-3535", &mut short);
-    close_output(b"close-output-3537", &mut long);
+    close_output(&mut none);
+    close_output(&mut short);
+    close_output(&mut long);
 }
 
 fn line_staging_cases() {
-    line_staging(b"line-staging-0", &[0u8; 0]);
-    line_staging(b"line-staging-62984", &[0u8; 62984]);
-    line_staging(b"line-staging-62986", &[0u8; 62986]);
+    line_staging(&[0u8; 0]);
+    line_staging(&[0u8; 62984]);
+    line_staging(&[0u8; 62986]);
 }
 
-fn mark_cases() {
+fn bitmap_cases() {
     let mut none = [0u8; 0];
     let mut short = [0u8; 7873];
     let mut long = [0u8; 7875];
-    line_marks(b"line-marks-0", &none);
-    line_marks(b"line-marks-7873", &short);
-    line_marks(b"line-marks-7875", &long);
-    package_marks(b"package-marks-0", &mut none);
-    package_marks(b"package-marks-7873", &mut short);
-    package_marks(b"package-marks-7875", &mut long);
+    line_bitmap(&none);
+    line_bitmap(&short);
+    line_bitmap(&long);
+    package_bitmap(&mut none);
+    package_bitmap(&mut short);
+    package_bitmap(&mut long);
 }
 
 // The lowest number that applies is given: 1 before any other.
@@ -209,11 +198,14 @@ fn lowest_cases() {
     let mut slots = [0u32; 703];
     let mut echo = [0u8; 127];
     let mut staging = [0u8; 62984];
-    event_slots(b"event-t-512-slots-703", &mut slots, 512);
-    line(b"line-of-byte-9-echo-127", &[9], &mut echo);
-    line(b"line-hv-2-echo-127", b"hv 2", &mut echo);
-    line(b"empty-line-echo-127", b"", &mut echo);
-    package_staging(b"package-of-no-byte-staging-62984", b"", &mut staging);
+    one(b"event-t-512-slots-703", event_with(&mut slots, 512));
+    one(b"line-of-byte-9-echo-127", line_with(&[9], &mut echo));
+    one(b"line-hv-2-echo-127", line_with(b"hv 2", &mut echo));
+    one(b"empty-line-echo-127", line_with(b"", &mut echo));
+    one(
+        b"package-of-no-byte-staging-62984",
+        package_with(b"", &mut staging),
+    );
 }
 
 // The same with the right buffers.
@@ -221,11 +213,11 @@ fn right_cases() {
     let mut slots = [0u32; SLOTS];
     let mut echo = [0u8; ECHO_BYTES];
     let mut staging = [0u8; STAGING_BYTES];
-    event_slots(b"event-t-512", &mut slots, 512);
-    line(b"line-of-byte-9", &[9], &mut echo);
-    line(b"line-hv-2", b"hv 2", &mut echo);
-    line(b"empty-line", b"", &mut echo);
-    package_staging(b"package-of-no-byte", b"", &mut staging);
+    one(b"event-t-512", event_with(&mut slots, 512));
+    one(b"line-of-byte-9", line_with(&[9], &mut echo));
+    one(b"line-hv-2", line_with(b"hv 2", &mut echo));
+    one(b"empty-line", line_with(b"", &mut echo));
+    one(b"package-of-no-byte", package_with(b"", &mut staging));
 }
 
 pub fn run() {
@@ -235,7 +227,7 @@ pub fn run() {
     echo_cases();
     output_cases();
     line_staging_cases();
-    mark_cases();
+    bitmap_cases();
     crate::listings::lengths();
     lowest_cases();
     right_cases();

@@ -1,3 +1,3 @@
 pub mod LoadLaws
-pub mod MarkLaws
+pub mod BitmapLaws
 pub mod StagingLaws

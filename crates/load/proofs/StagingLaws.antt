@@ -10,23 +10,23 @@ use borrow.Author.Tests.{leb-true, le-leb, eqb-true}
 use Rattle.wire.proofs.Bytes.{length-part, length-put}
 use Rattle.wire.proofs.Lists.{and-left, and-right, and-split}
 use Rattle.causes.specs.Causes.{carriedOut, packageForm, pastStaging, packageSum}
-use Rattle.load.specs.Staging.{stagingBytes, countOf, payloadBytes, payload, receivedSum, computedSum, formed, fits, placeable}
+use Rattle.load.specs.Staging.{stagingBytes, countField, payloadBytes, payload, receivedSum, computedSum, formed, fits, placeable}
 use Rattle.load.specs.Staging.{packageNumber, stagingAfter, addressesAfter, freshAddresses, addressesWithin}
 use Rattle.load.specs.declared.staging.Addresses.{Addresses}
 
 -- what a well formed package is
 pub record Formed (p : List ℕ) : Type 0 where
-  pub counted : 2 ≤ countOf p
-  pub matching : length p ≡ 2 + countOf p
+  pub counted : 2 ≤ countField p
+  pub matching : length p ≡ 2 + countField p
 
 pub formed-is : (p : List ℕ) → formed p ≡ true → Formed p
 unfolding formed
 formed-is p h =
-    let l = and-left (leb 2 (length p) && leb 2 (countOf p)) (eqb (length p) (2 + countOf p)) h in
-    let r = and-right (leb 2 (length p) && leb 2 (countOf p)) (eqb (length p) (2 + countOf p)) h in
+    let l = and-left (leb 2 (length p) && leb 2 (countField p)) (eqb (length p) (2 + countField p)) h in
+    let r = and-right (leb 2 (length p) && leb 2 (countField p)) (eqb (length p) (2 + countField p)) h in
     record {
-      counted = leb-true 2 (countOf p) (and-right (leb 2 (length p)) (leb 2 (countOf p)) l);
-      matching = eqb-true (length p) (2 + countOf p) r;
+      counted = leb-true 2 (countField p) (and-right (leb 2 (length p)) (leb 2 (countField p)) l);
+      matching = eqb-true (length p) (2 + countField p) r;
     }
 
 pub length-payload : (p : List ℕ) → formed p ≡ true → length (payload p) ≡ payloadBytes p

@@ -1,3 +1,3 @@
 pub mod Load
-pub mod Marks
+pub mod Bitmap
 pub mod Staging

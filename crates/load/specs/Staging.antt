@@ -15,24 +15,24 @@ abbrev pub stagingBytes : ℕ
 stagingBytes = tableBytes
 
 -- "A package is a 16-bit N, then N − 2 bytes, then their sum modulo 65,536"
-abbrev pub countOf : List ℕ → ℕ
-countOf p = at16 p 0
+abbrev pub countField : List ℕ → ℕ
+countField p = at16 p 0
 
 abbrev pub payloadBytes : List ℕ → ℕ
-payloadBytes p = countOf p - 2
+payloadBytes p = countField p - 2
 
 abbrev pub payload : List ℕ → List ℕ
 payload p = take (payloadBytes p) (drop 2 p)
 
 abbrev pub receivedSum : List ℕ → ℕ
-receivedSum p = at16 p (countOf p)
+receivedSum p = at16 p (countField p)
 
 abbrev pub computedSum : List ℕ → ℕ
 computedSum p = total (payload p) % 65536
 
 -- neither "no N" nor "N below 2 or not matching the bytes"
 unfoldable pub formed : List ℕ → Bool
-formed p = leb 2 (length p) && leb 2 (countOf p) && eqb (length p) (2 + countOf p)
+formed p = leb 2 (length p) && leb 2 (countField p) && eqb (length p) (2 + countField p)
 
 -- not "package passes staging's end"
 abbrev pub fits : List ℕ → (next : ℕ) → Bool

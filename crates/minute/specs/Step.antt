@@ -10,7 +10,7 @@ use Rattle.buffered.specs.Input.{waitingIn}
 use Rattle.stream.specs.declared.record.Next.{Next}
 use Rattle.stream.specs.declared.record.Next.the-variants.{End, Bad, Record}
 use Rattle.stream.specs.declared.record.Step.{Step}
-use Rattle.minute_calls.specs.Calls.{carriedOut}
+use Rattle.minute_calls.specs.Calls.{kindDone}
 use Rattle.minute_calls.specs.Events.{EventsRun, NoEvent}
 
 -- its body
@@ -29,9 +29,9 @@ Stepped (Record kind start from rest) s tables staging slots buffer r tables′ 
     × (tables′ ≡ tables)
     × (r .more ≡ true))
     × ((kind ≡ 1 → ⊥) →
-    (r .state ≡ carriedOut kind s tables staging slots (bodyIn from rest buffer) .answer .state)
-    × (tables′ ≡ carriedOut kind s tables staging slots (bodyIn from rest buffer) .tables)
-    × (slots′ ≡ carriedOut kind s tables staging slots (bodyIn from rest buffer) .slots)
+    (r .state ≡ kindDone kind s tables staging slots (bodyIn from rest buffer) .answer .state)
+    × (tables′ ≡ kindDone kind s tables staging slots (bodyIn from rest buffer) .tables)
+    × (slots′ ≡ kindDone kind s tables staging slots (bodyIn from rest buffer) .slots)
     × (r .input .at ≡ rest .at)
     × (r .input .end ≡ rest .end)
     × (r .more ≡ true))

@@ -1,13 +1,13 @@
 // Reads tables.bin and records from standard input, and prints a line for each interval that is closed.
 ghost use Rattle.buffered.specs.Input.{Held};
-ghost use Rattle.minute_records.specs.Record.{LiesIn};
+ghost use Rattle.minute_calls.specs.Record.{LiesIn};
 ghost use Rattle.minute.specs.Step.{Stepped};
 use buffered::input::Input;
 use buffered::text::OVER;
 use buffered::turns::MOST_TURNS;
 use buffered::turns::left;
 use minute_calls::calls;
-use minute_records::records;
+use minute_calls::records;
 use state::State;
 use stream::record::Next;
 use stream::record::Step;
@@ -60,7 +60,7 @@ fn step(
 
 // Carries out record after record until the input ends or a record is bad.
 fn run(tables: &mut [u8], staging: &[u8], slots: &mut [u32], buffer: &mut [u8], text: &mut [u8]) {
-    let mut state = state::fresh();
+    let mut state = stream::start::fresh();
     let mut input = buffered::input::none();
     let mut at: usize = 0;
     let mut turns = MOST_TURNS;
@@ -81,7 +81,7 @@ fn main() {
         return;
     }
     let staging = [0u8; load::staging::STAGING_BYTES];
-    let mut slots = [0u32; settings::SLOTS as usize];
+    let mut slots = [0u32; stream::start::SLOTS];
     let mut buffer = [0u8; buffered::input::INPUT_BYTES];
     let mut text = [0u8; buffered::text::TEXT_BYTES];
     run(&mut tables, &staging, &mut slots, &mut buffer, &mut text);

@@ -1,3 +1,3 @@
--- Laws of lines and of events in a row.
-mod LineLaws
+-- Laws of records, which minute's proofs cite too, and of events in a row.
+pub mod RecordLaws
 mod EventLaws

@@ -1,4 +1,5 @@
--- What the contracts of minute's calls cite.
+-- What the contracts of minute's records and calls cite.
+pub mod Record
 pub mod Line
 pub mod Events
 pub mod Calls

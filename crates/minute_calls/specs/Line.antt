@@ -1,15 +1,9 @@
 -- A line's body (document 01, "The program minute"). Assumes nothing.
-use mathlib.Core.Bool.{cond}
-use mathlib.Core.List.{List, [], _∷_}
-use Prim.Native.Nat.{ℕ, suc}
-use lib.Dec.{eqb}
+use mathlib.Core.List.{List}
+use Prim.Native.Nat.{ℕ}
 use lib.ListN.{take}
-
--- how many bytes stand before the first zero
-unfoldable pub lineLength : List ℕ → ℕ
-lineLength [] = 0
-lineLength (b ∷ bs) = cond (eqb b 0) 0 (suc (lineLength bs))
+use Rattle.wire.specs.Words.{lengthBefore}
 
 -- "A line ends before its first zero byte"
-abbrev pub lineIn : List ℕ → List ℕ
-lineIn body = take (lineLength body) body
+abbrev pub toFirstZero : List ℕ → List ℕ
+toFirstZero body = take (lengthBefore 0 body) body

@@ -4,49 +4,36 @@ ghost use mathlib.Core.Path.{_≡_};
 ghost use Prim.Native.Nat.{_-_, _≤_};
 ghost use lib.ListN.{length};
 ghost use Rattle.wire.specs.Bytes.{zeros, at32};
-ghost use Rattle.load.specs.Marks.{marksBytes};
+ghost use Rattle.load.specs.Bitmap.{bitmapBytes};
 ghost use Rattle.echo.specs.Echo.{echoBytes};
 ghost use Rattle.processor.specs.Line.{lineDone};
-ghost use Rattle.output.specs.Output.{outBytes};
 ghost use Rattle.processor.specs.Close.{closeDone};
 ghost use Rattle.buffered.specs.Input.{Held, waitingIn};
 ghost use Rattle.stream.specs.Record.{LongAs};
-ghost use Rattle.minute_calls.specs.Calls.{lineTo, closedTo, carriedOut};
+ghost use Rattle.stream.specs.Start.{outBytes};
+ghost use Rattle.minute_calls.specs.Calls.{lineTo, closedTo, kindDone};
 ghost use Rattle.minute_calls.specs.Events.{EventsRun, NoEvent};
-ghost use Rattle.minute_calls.specs.Line.{lineLength, lineIn};
+ghost use Rattle.minute_calls.specs.Line.{toFirstZero};
 use buffered::input::Input;
 use counts::Counts;
+use output::Summary;
 use processor::Answer;
-use processor::close::Closed;
 use state::State;
 use stream::record::Step;
 use stream::record::going_on;
+use wire::words::length_before;
 
 // A kind byte and an event.
 const EVENT_RECORD: usize = 1 + stream::record::EVENT_BYTES;
 
-// How many bytes stand before the first zero.
-fn line_length(body: &[u8]) -> usize
-    ensures { λ r. ⌜ (r ≡ lineLength (now (body .entry))) × (r ≤ length (now (body .entry))) ⌝ }
-{
-    let mut i: usize = 0;
-    while i < body.len() {
-        if body[i] == 0 {
-            return i;
-        }
-        i += 1;
-    }
-    i
-}
-
-// One command line. Its echo and its sum are not printed. No package comes to this program, so no staged byte is marked.
+// One command line. Its echo and its sum are not printed. No package comes to this program, so no staged byte is bad.
 fn line(state: State, staging: &[u8], body: &[u8]) -> Answer
-    ensures { λ r. ⌜ r ≡ lineTo (lineDone state (lineIn (now (body .entry))) (now (staging .entry)) (zeros marksBytes) (zeros echoBytes)) ⌝ }
+    ensures { λ r. ⌜ r ≡ lineTo (lineDone state (toFirstZero (now (body .entry))) (now (staging .entry)) (zeros bitmapBytes) (zeros echoBytes)) ⌝ }
 {
-    let n = line_length(body);
-    let marks = [0u8; load::marks::MARKS_BYTES];
+    let n = length_before(body, 0);
+    let bitmap = [0u8; load::bitmap::BITMAP_BYTES];
     let mut echo = [0u8; echo::ECHO_BYTES];
-    let told = processor::line::line(state, &body[..n], staging, &marks, &mut echo);
+    let told = processor::line::line(state, &body[..n], staging, &bitmap, &mut echo);
     let after = told.state;
     Answer {
         number: told.number,
@@ -69,17 +56,17 @@ fn print_box(text: &mut [u8], at: &mut usize, counts: Counts, b: usize)
 }
 
 // The ended frame, taken, boxes 5, 6 and 7, and the filled slots. A refused close is printed as a refusal.
-fn print_closed(text: &mut [u8], at: &mut usize, frame: u16, closed: Closed) {
-    if closed.number != causes::CARRIED_OUT {
+fn print_closed(text: &mut [u8], at: &mut usize, frame: u16, number: u8, ended: Summary) {
+    if number != causes::CARRIED_OUT {
         return;
     }
-    let counts = closed.counts;
+    let counts = ended.counts;
     buffered::text::decimal(text, at, frame as u64);
-    buffered::text::number(text, at, closed.taken as u64);
+    buffered::text::number(text, at, ended.taken as u64);
     print_box(text, at, counts, 5);
     print_box(text, at, counts, 6);
     print_box(text, at, counts, 7);
-    buffered::text::number(text, at, closed.filled as u64);
+    buffered::text::number(text, at, ended.filled as u64);
     buffered::text::line_end(text, at);
 }
 
@@ -105,9 +92,10 @@ fn close(
         (zeros outBytes) .slots ⌝ }
 {
     let time = wire::read::u32_at(body, 0);
-    let mut packets = [0u8; output::OUT_BYTES];
+    let mut packets = [0u8; stream::start::OUT_BYTES];
     let closed = processor::close::close(state, time, tables, staging, slots, &mut packets);
-    print_closed(text, at, state.frame, closed);
+    let ended = closed.summary;
+    print_closed(text, at, state.frame, closed.number, ended);
     let after = closed.state;
     Answer {
         number: closed.number,
@@ -128,11 +116,11 @@ pub fn carry_out(
 ) -> Answer
     requires { ⌜ LongAs kind (length (now body)) ⌝ }
     ensures answer { λ r. ⌜ r
-        ≡ carriedOut kind state (now (tables .entry)) (now (staging .entry)) (now (slots .entry)) (now (body .entry)) .answer ⌝ }
+        ≡ kindDone kind state (now (tables .entry)) (now (staging .entry)) (now (slots .entry)) (now (body .entry)) .answer ⌝ }
     ensures tables { λ r. ⌜ now (tables .exit)
-        ≡ carriedOut kind state (now (tables .entry)) (now (staging .entry)) (now (slots .entry)) (now (body .entry)) .tables ⌝ }
+        ≡ kindDone kind state (now (tables .entry)) (now (staging .entry)) (now (slots .entry)) (now (body .entry)) .tables ⌝ }
     ensures slots { λ r. ⌜ now (slots .exit)
-        ≡ carriedOut kind state (now (tables .entry)) (now (staging .entry)) (now (slots .entry)) (now (body .entry)) .slots ⌝ }
+        ≡ kindDone kind state (now (tables .entry)) (now (staging .entry)) (now (slots .entry)) (now (body .entry)) .slots ⌝ }
 {
     match kind {
         stream::record::READING => stream::record::reading(state, body),

@@ -1,2 +1,3 @@
-// The calls that carry out the records of minute.
+// The records of minute, and the calls that carry them out.
 pub mod calls;
+pub mod records;

@@ -1,106 +1,141 @@
--- The thirteen packets fill the output, and what the limits hold has a rate code. Assumes nothing.
+-- The packets fill the output, each stands in its place, and what the limits hold has a rate code. Assumes nothing.
 use mathlib.Core.Path.{_≡_, refl, sym, ap, _∙_}
 use mathlib.Core.Bool.{true}
-use mathlib.Core.List.{List, _++_}
-use mathlib.Core.Logic.{⊎-elim}
+use mathlib.Core.List.{List, [], _++_, append-assoc, append-nil}
 use Prim.Native.Nat.{ℕ, zero, suc, _+_, _*_, _≤_, _<_}
-use native.Mathlib.Nat.{eq-or-lt-of-le}
 use native.Mathlib.Omega.{arith}
-use lib.ListN.{length, take, drop, length-append, length-drop}
-use lib.Seq.{drop-at, drop-drop, drop-append-le, drop-append-add, take-all, take-append-le}
+use borrow.Author.Tests.{eqb-true, eqb-false}
+use lib.Dec.{eqb}
+use lib.ListN.{length, take, drop, length-append}
+use lib.Seq.{drop-at, take-at}
 use Rattle.wire.specs.Bytes.{words}
 use Rattle.wire.specs.Lists.{EachBelow}
 use Rattle.wire.proofs.Bytes.{length-part, length-words}
-use Rattle.wire.proofs.Lists.{part-of-reach}
-use Rattle.settings.specs.declared.Settings.{Settings}
-use Rattle.settings.specs.Settings.{slotCount}
-use Rattle.counts.specs.declared.Counts.{Counts}
+use Rattle.wire.proofs.Lists.{decide}
+use Rattle.boxes.specs.Boxes.{boxCount, beaconCount, totalCount}
 use Rattle.packet.specs.Packet.{packetBytes, sampleApplication, stampOf, ratePacket, samplePacket, beaconPacket}
 use Rattle.decode.proofs.Back.{body-part}
 use Rattle.rate_code.specs.Rate.{countLimit}
 use Rattle.rate_code.specs.Editions.{secondMark}
-use Rattle.packet.specs.TableSum.{tableSum}
 use Rattle.packet.proofs.Written.{length-rate, length-sample, length-beacon}
 use Rattle.state.specs.declared.interval.Interval.{Interval}
 use Rattle.state.specs.Interval.{intervalWithin}
 use Rattle.state.proofs.LimitLaws.{interval-limits, boxes-below, beacons-below, totals-below}
-use Rattle.output.specs.Output.{samplePackets, outBytes, samplesOf, packetsOf}
+use Rattle.output.specs.declared.Span.{Span}
+use Rattle.output.specs.Ended.{Ended}
+use Rattle.output.specs.Output.{spanBytes, samplesOf, written, packetAt, ratePlace, samplePlace, beaconPlace}
 
-pub totals-fit : (i : Interval) → intervalWithin i ≡ true → EachBelow countLimit (i .totals)
-totals-fit i w k = omega (arith, totals-below i w k)
+-- ---- the limits of an interval with this many slots
 
-pub boxes-fit : (i : Interval) → intervalWithin i ≡ true → EachBelow countLimit (i .counts .boxes)
-boxes-fit i w = boxes-below countLimit i w (omega (arith, interval-limits i w .taken-most))
+module _ (slots : ℕ) (i : Interval) (w : intervalWithin slots i ≡ true) where
+  pub totals-fit : EachBelow countLimit (i .totals)
+  totals-fit k = omega (arith, totals-below slots i w k)
 
-pub beacons-fit : (i : Interval) → intervalWithin i ≡ true → EachBelow countLimit (i .counts .beacons)
-beacons-fit i w = beacons-below countLimit i w (omega (arith, interval-limits i w .taken-most))
+  pub boxes-fit : EachBelow countLimit (i .counts .boxes)
+  boxes-fit = boxes-below countLimit slots i w (omega (arith, interval-limits slots i w .taken-most))
 
-module _ (frame time : ℕ) where
-  pub length-samples : (slots : List ℕ) (n : ℕ) → 64 * n ≤ length slots → length (samplesOf frame time slots n) ≡ packetBytes * n
+  pub beacons-fit : EachBelow countLimit (i .counts .beacons)
+  beacons-fit = beacons-below countLimit slots i w (omega (arith, interval-limits slots i w .taken-most))
+
+-- ---- lengths
+
+pub length-samples : (frame time : ℕ) (slots : List ℕ) (first n : ℕ) → 64 * n ≤ length slots
+    → length (samplesOf frame time slots first n) ≡ packetBytes * n
+unfolding samplesOf
+length-samples frame time slots first zero h = refl
+length-samples frame time slots first (suc n) h =
+    let records : List ℕ = take 64 (drop (64 * n) slots) in
+    let l : length records ≡ 64 = length-part slots (64 * n) 64 (omega arith) in
+    length-append (samplesOf frame time slots first n) (samplePacket (stampOf frame time (first + n)) records)
+    ∙ omega (arith, length-samples frame time slots first n (omega arith), length-sample (stampOf frame time (first + n)) records l)
+
+-- what packets are written from has its lengths, and slots for each of the sample packets
+pub record Lengths (e : Ended) (s : Span) : Type 0 where
+  pub totals-are : length (e .totals) ≡ totalCount
+  pub boxes-are : length (e .summary .counts .boxes) ≡ boxCount
+  pub beacons-are : length (e .summary .counts .beacons) ≡ beaconCount
+  pub slots-enough : 64 * s .many ≤ length (e .slots)
+
+-- ---- places
+
+-- the packet behind k others
+packet-at : (before here rest : List ℕ) (k : ℕ) → length before ≡ packetBytes * k → length here ≡ packetBytes
+    → packetAt (before ++ here ++ rest) k ≡ here
+packet-at before here rest k lb lh =
+    rw (append-assoc before here rest, drop-at before (here ++ rest) (packetBytes * k) lb) (take-at here rest packetBytes lh)
+
+module _ (e : Ended) (s : Span) (l : Lengths e s) where
+  abbrev pub rate : List ℕ
+  rate = ratePacket (stampOf (e .frame) (e .time) secondMark) (e .totals) (e .summary .counts .boxes) (e .settings) (e .sum)
+
+  abbrev pub slotsIn : (i : ℕ) → List ℕ
+  slotsIn i = take 64 (drop (64 * i) (e .slots))
+
+  abbrev pub sample : (i : ℕ) → List ℕ
+  sample i = samplePacket (stampOf (e .frame) (e .time) (s .first + i)) (slotsIn i)
+
+  abbrev samples : ℕ → List ℕ
+  samples n = samplesOf (e .frame) (e .time) (e .slots) (s .first) n
+
+  abbrev pub beacon : List ℕ
+  beacon = beaconPacket (stampOf (e .frame) (e .time) secondMark) (e .summary .counts .beacons)
+
+  rate-length : length rate ≡ packetBytes
+  rate-length = length-rate _ (e .totals) (e .summary .counts .boxes) (e .settings) (e .sum) (l .totals-are) (l .boxes-are)
+
+  pub slots-length : (i : ℕ) → i < s .many → length (slotsIn i) ≡ 64
+  slots-length i h = length-part (e .slots) (64 * i) 64 (omega (arith, l .slots-enough))
+
+  beacon-length : length beacon ≡ packetBytes
+  beacon-length = length-beacon _ (e .summary .counts .beacons) (l .beacons-are)
+
+  -- rate packet and n sample packets
+  before-length : (n : ℕ) → n ≤ s .many → length (rate ++ samples n) ≡ packetBytes * (n + 1)
+  before-length n h =
+      length-append rate (samples n)
+      ∙ omega (arith, rate-length, length-samples (e .frame) (e .time) (e .slots) (s .first) n (omega (arith, l .slots-enough)))
+
+  -- a sample packet, whatever stands behind the first n
+  sample-at : (n i : ℕ) → n ≤ s .many → i < n → (rest : List ℕ) → packetAt (rate ++ samples n ++ rest) (samplePlace i) ≡ sample i
   unfolding samplesOf
-  length-samples slots zero h = refl
-  length-samples slots (suc n) h =
-      let records : List ℕ = take 64 (drop (64 * n) slots) in
-      let l : length records ≡ 64 = length-part slots (64 * n) 64 (omega arith) in
-      length-append (samplesOf frame time slots n) (samplePacket (stampOf frame time n) records)
-      ∙ omega (arith, length-samples slots n (omega arith), length-sample (stampOf frame time n) records l)
+  sample-at zero i h k rest = absurd (omega arith)
+  sample-at (suc n) i h k rest =
+      ap (λ (x : List ℕ). packetAt (x ++ rest) (samplePlace i)) (sym (append-assoc rate (samples n) (sample n)))
+      ∙ decide (eqb i n)
+      (λ q.
+      let g : i ≡ n = eqb-true i n q in
+      let f : length (sample n) ≡ packetBytes = length-sample _ (slotsIn n) (slots-length n (omega arith)) in
+      rw g (packet-at (rate ++ samples n) (sample n) rest (samplePlace n) (before-length n (omega arith)) f))
+      (λ q.
+      let g : i ≡ n → ⊥ = eqb-false i n q in
+      ap (λ (x : List ℕ). packetAt x (samplePlace i)) (append-assoc (rate ++ samples n) (sample n) rest)
+      ∙ sample-at n i (omega arith) (omega arith) (sample n ++ rest))
 
-  pub length-packets : (totals : List ℕ) (counts : Counts) (settings : Settings) (tables slots : List ℕ)
-      → length totals ≡ 8 → length (counts .boxes) ≡ 116 → length (counts .beacons) ≡ 12 → length slots ≡ slotCount
-      → length (packetsOf frame time totals counts settings tables slots) ≡ outBytes
-  unfolding packetsOf
-  length-packets totals counts settings tables slots lt lb lc ls =
-      simp length-append (omega (
-        arith,
-        length-rate (stampOf frame time secondMark) totals (counts .boxes) settings (tableSum tables) lt lb,
-        length-samples slots samplePackets (omega arith),
-        length-beacon (stampOf frame time secondMark) (counts .beacons) lc,
-      ))
+  pub written-length : length (written e s) ≡ spanBytes s
+  unfolding written
+  written-length =
+      length-append (rate ++ samples (s .many)) beacon ∙ omega (arith, before-length (s .many) (omega arith), beacon-length)
 
-  -- sample packet p among the first n
-  sample-in : (slots : List ℕ) (n p : ℕ) → 64 * n ≤ length slots → p < n
-      → take packetBytes (drop (packetBytes * p) (samplesOf frame time slots n))
-      ≡ samplePacket (stampOf frame time p) (take 64 (drop (64 * p) slots))
-  unfolding samplesOf
-  sample-in slots zero p h l = absurd (omega arith)
-  sample-in slots (suc n) p h l =
-      let before : List ℕ = samplesOf frame time slots n in
-      let last : List ℕ = samplePacket (stampOf frame time n) (take 64 (drop (64 * n) slots)) in
-      let lb : length before ≡ packetBytes * n = length-samples slots n (omega arith) in
-      let ll : length last ≡ packetBytes = length-sample (stampOf frame time n) _ (length-part slots (64 * n) 64 (omega arith)) in
-      ⊎-elim
-      (λ e. rw e (ap (take packetBytes) (drop-at before last (packetBytes * n) lb) ∙ take-all packetBytes last (omega arith)))
-      (λ g.
-      ap (take packetBytes) (drop-append-le (packetBytes * p) before last (omega arith))
-      ∙ take-append-le packetBytes (drop (packetBytes * p) before) last (omega (arith, length-drop (packetBytes * p) before))
-      ∙ sample-in slots n p (omega arith) g)
-      (eq-or-lt-of-le (omega arith))
+  pub rate-placed : packetAt (written e s) ratePlace ≡ rate
+  unfolding written
+  rate-placed =
+      ap (λ (x : List ℕ). packetAt x ratePlace) (append-assoc rate (samples (s .many)) beacon)
+      ∙ packet-at [] rate (samples (s .many) ++ beacon) ratePlace refl rate-length
 
-  -- "packet p (0 to 10) has slots 64p to 64p + 63 at 11-266", of the part of the output behind the rate packet and p others
-  pub slots-sent : (totals : List ℕ) (counts : Counts) (settings : Settings) (tables slots : List ℕ) (p : ℕ)
-      → length totals ≡ 8 → length (counts .boxes) ≡ 116 → length slots ≡ slotCount → p < samplePackets
-      → take 256 (drop (packetBytes * (p + 1) + 11) (packetsOf frame time totals counts settings tables slots))
-      ≡ words (take 64 (drop (64 * p) slots))
-  unfolding packetsOf samplePacket
-  slots-sent totals counts settings tables slots p lt lb ls h =
-      let R : List ℕ = ratePacket (stampOf frame time secondMark) totals (counts .boxes) settings (tableSum tables) in
-      let S : List ℕ = samplesOf frame time slots samplePackets in
-      let E : List ℕ = beaconPacket (stampOf frame time secondMark) (counts .beacons) in
-      let lr : length R ≡ packetBytes = length-rate (stampOf frame time secondMark) totals (counts .boxes) settings (tableSum tables) lt lb in
-      let lS : length S ≡ packetBytes * samplePackets = length-samples slots samplePackets (omega arith) in
-      let records : List ℕ = take 64 (drop (64 * p) slots) in
-      let k : packetBytes * (p + 1) ≡ length R + packetBytes * p = omega arith in
-      let d : drop (packetBytes * (p + 1)) (R ++ S ++ E) ≡ drop (packetBytes * p) S ++ E =
-      drop-append-le (packetBytes * (p + 1)) (R ++ S) E (omega (arith, length-append R S))
-      ∙ ap (λ (n : ℕ). drop n (R ++ S) ++ E) k
-      ∙ ap (λ (l : List ℕ). l ++ E) (drop-append-add R S (packetBytes * p)) in
-      let X : List ℕ = drop (packetBytes * p) S ++ E in
-      let lX : packetBytes ≤ length X = omega (arith, length-append (drop (packetBytes * p) S) E, length-drop (packetBytes * p) S) in
-      let q : take packetBytes X ≡ samplePacket (stampOf frame time p) records =
-      take-append-le packetBytes (drop (packetBytes * p) S) E (omega (arith, length-drop (packetBytes * p) S))
-      ∙ sample-in slots samplePackets p (omega arith) h in
-      let w : length (words records) ≡ 256 = length-words records ∙ omega (arith, length-part slots (64 * p) 64 (omega arith)) in
-      ap (take 256) (sym (drop-drop 11 (packetBytes * (p + 1)) (R ++ S ++ E)) ∙ ap (drop 11) d)
-      ∙ sym (part-of-reach X 256 11 packetBytes (omega arith) lX)
-      ∙ ap (λ (l : List ℕ). take 256 (drop 11 l)) q
-      ∙ body-part (sampleApplication + p) (stampOf frame time p) (words records) w
+  pub sample-placed : (i : ℕ) → i < s .many → packetAt (written e s) (samplePlace i) ≡ sample i
+  unfolding written
+  sample-placed i h = sample-at (s .many) i (omega arith) h beacon
+
+  pub beacon-placed : packetAt (written e s) (beaconPlace s) ≡ beacon
+  unfolding written
+  beacon-placed =
+      ap (λ (x : List ℕ). packetAt x (beaconPlace s)) (sym (append-nil (rate ++ samples (s .many) ++ beacon)))
+      ∙ packet-at (rate ++ samples (s .many)) beacon [] (beaconPlace s) (before-length (s .many) (omega arith)) beacon-length
+
+  -- "packet p .. has slots 64p to 64p + 63 at 11-266"
+  pub slots-sent : (i : ℕ) → i < s .many → take 256 (drop 11 (packetAt (written e s) (samplePlace i))) ≡ words (slotsIn i)
+  unfolding samplePacket
+  slots-sent i h =
+      let w : length (words (slotsIn i)) ≡ 256 = length-words (slotsIn i) ∙ omega (arith, slots-length i h) in
+      ap (λ (x : List ℕ). take 256 (drop 11 x)) (sample-placed i h)
+      ∙ body-part (sampleApplication + (s .first + i)) (stampOf (e .frame) (e .time) (s .first + i)) (words (slotsIn i)) w

@@ -1,29 +1,51 @@
--- The thirteen packets of a close (document 01, "Packets"). Assumes nothing.
+-- The packets of an ended interval (document 01, "Packets"). Assumes nothing.
 use mathlib.Core.List.{List, [], _++_}
-use Prim.Native.Nat.{ℕ, zero, suc, _*_}
+use Prim.Native.Nat.{ℕ, zero, suc, _+_, _*_}
 use lib.ListN.{take, drop}
-use Rattle.settings.specs.declared.Settings.{Settings}
-use Rattle.counts.specs.declared.Counts.{Counts}
+use Rattle.capacity.specs.declared.Numbers.{Numbers}
 use Rattle.rate_code.specs.Editions.{secondMark}
-use Rattle.packet.specs.Packet.{packetBytes, stampOf, ratePacket, samplePacket, beaconPacket}
-use Rattle.packet.specs.TableSum.{tableSum}
+use Rattle.packet.specs.Layout.{packetBytes}
+use Rattle.packet.specs.Packet.{stampOf, ratePacket, samplePacket, beaconPacket}
+use Rattle.output.specs.declared.Span.{Span}
+use Rattle.output.specs.Ended.{Ended}
 
--- "Close writes 13 × 272 bytes": a rate packet, eleven of samples, a beacon packet
-abbrev pub samplePackets : ℕ
-samplePackets = 11
+-- ---- which sample packets
 
-abbrev pub outBytes : ℕ
-outBytes = 13 * packetBytes
+-- all that there are slots for: "packet p (0 to 10)"
+abbrev pub wholeSpan : Numbers → Span
+wholeSpan n = record { first = 0; many = n .samples }
 
--- sample packets 0 to n - 1: "packet p .. has slots 64p to 64p + 63"
-unfoldable pub samplesOf : (frame time : ℕ) (slots : List ℕ) (n : ℕ) → List ℕ
-samplesOf frame time slots zero = []
-samplesOf frame time slots (suc n) =
-    samplesOf frame time slots n ++ samplePacket (stampOf frame time n) (take 64 (drop (64 * n) slots))
+-- the bytes of these with a rate packet before and a beacon packet behind them: "Close writes 13 × 272 bytes"
+abbrev pub spanBytes : Span → ℕ
+spanBytes s = packetBytes * (s .many + 2)
 
--- all thirteen, "from the ending interval's settings and tables"; "Rate and beacon packets get 1 in byte 269" (document 02, Point 5)
-unfoldable pub packetsOf : (frame time : ℕ) (totals : List ℕ) (counts : Counts) (settings : Settings) (tables slots : List ℕ) → List ℕ
-packetsOf frame time totals counts settings tables slots =
-    ratePacket (stampOf frame time secondMark) totals (counts .boxes) settings (tableSum tables)
-    ++ samplesOf frame time slots samplePackets
-    ++ beaconPacket (stampOf frame time secondMark) (counts .beacons)
+-- ---- the packets
+
+-- n sample packets from `first` on: "packet p .. has slots 64p to 64p + 63", the first of them the slots from 0 on
+unfoldable pub samplesOf : (frame time : ℕ) (slots : List ℕ) (first n : ℕ) → List ℕ
+samplesOf frame time slots first zero = []
+samplesOf frame time slots first (suc n) =
+    samplesOf frame time slots first n ++ samplePacket (stampOf frame time (first + n)) (take 64 (drop (64 * n) slots))
+
+-- "rate .., samples .., beacon"; "Rate and beacon packets get 1 in byte 269" (document 02, Point 5)
+unfoldable pub written : Ended → Span → List ℕ
+written e s =
+    ratePacket (stampOf (e .frame) (e .time) secondMark) (e .totals) (e .summary .counts .boxes) (e .settings) (e .sum)
+    ++ samplesOf (e .frame) (e .time) (e .slots) (s .first) (s .many)
+    ++ beaconPacket (stampOf (e .frame) (e .time) secondMark) (e .summary .counts .beacons)
+
+-- ---- where each stands
+
+-- packet k of the output, from 0 on
+abbrev pub packetAt : (out : List ℕ) (k : ℕ) → List ℕ
+packetAt out k = take packetBytes (drop (packetBytes * k) out)
+
+abbrev pub ratePlace : ℕ
+ratePlace = 0
+
+-- the sample packet that has the slots from 64i on
+abbrev pub samplePlace : (i : ℕ) → ℕ
+samplePlace i = i + 1
+
+abbrev pub beaconPlace : Span → ℕ
+beaconPlace s = s .many + 1

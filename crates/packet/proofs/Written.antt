@@ -11,7 +11,8 @@ use Rattle.settings.specs.declared.Settings.{Settings}
 use Rattle.packet.specs.declared.stamp.Stamp.{Stamp}
 use Rattle.rate_code.specs.Editions.{codeBy}
 use Rattle.packet.specs.Layout.{applicationAt, bodyAt, innerBytes, sumAt, packetBytes, bodyBytes, frameAt}
-use Rattle.packet.specs.Layout.{totalCount, boxCount, recordCount, beaconCount, beaconUnused}
+use Rattle.boxes.specs.Boxes.{boxCount, beaconCount, totalCount}
+use Rattle.packet.specs.Layout.{recordCount, beaconUnused}
 use Rattle.packet.specs.Packet.{rateApplication, sampleApplication, beaconApplication, header, summed, enveloped, trailer, packetOf}
 use Rattle.packet.specs.Packet.{codes, settingsBytes, rateBody, beaconBody, ratePacket, samplePacket, beaconPacket}
 

@@ -1,5 +1,6 @@
 -- Where each part of a packet stands, for its writer and its reader alike (document 01, "Packets"). Assumes nothing.
 use Prim.Native.Nat.{ℕ, _+_, _-_, _*_}
+use Rattle.boxes.specs.Boxes.{boxCount, beaconCount, totalCount}
 
 -- ---- every packet
 
@@ -72,12 +73,6 @@ abbrev pub recordBytes : ℕ
 recordBytes = 4
 
 -- "Rate: 11-26 eight totals, 27-258 boxes 1 to 116"
-abbrev pub totalCount : ℕ
-totalCount = 8
-
-abbrev pub boxCount : ℕ
-boxCount = 116
-
 abbrev pub rateCount : ℕ
 rateCount = totalCount + boxCount
 
@@ -118,9 +113,6 @@ abbrev pub recordCount : ℕ
 recordCount = 64
 
 -- "Beacon: 11-34 twelve rates"; 35 to 266 have no use
-abbrev pub beaconCount : ℕ
-beaconCount = 12
-
 abbrev pub beaconEnd : ℕ
 beaconEnd = bodyAt + codeBytes * beaconCount
 

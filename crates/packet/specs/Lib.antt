@@ -1,4 +1,3 @@
 pub mod Layout
 pub mod Packet
 pub mod TableSum
-pub mod Ranges

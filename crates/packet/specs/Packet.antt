@@ -21,9 +21,8 @@ sampleApplication = 606
 abbrev pub beaconApplication : ℕ
 beaconApplication = 624
 
--- "packet p (0 to 10)"
-abbrev pub lastSample : ℕ
-lastSample = 10
+abbrev pub applicationOfSample : (p : ℕ) → ℕ
+applicationOfSample p = sampleApplication + p
 
 -- ---- every packet
 
@@ -82,7 +81,7 @@ ratePacket stamp totals boxes s sum = packetOf rateApplication stamp (rateBody (
 
 -- "Samples: packet p (0 to 10) has slots 64p to 64p + 63 at 11-266, p at 269"
 unfoldable pub samplePacket : Stamp → (records : List ℕ) → List ℕ
-samplePacket stamp records = packetOf (sampleApplication + stamp .mark) stamp (words records)
+samplePacket stamp records = packetOf (applicationOfSample (stamp .mark)) stamp (words records)
 
 -- "Beacon: 11-34 twelve rates"; 35-266 are zero
 abbrev pub beaconBody : (mark : ℕ) (beacons : List ℕ) → List ℕ

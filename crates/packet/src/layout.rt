@@ -1,4 +1,7 @@
 // Where each part of a packet stands, for writing and reading alike.
+use boxes::BEACONS;
+use boxes::BOXES;
+use boxes::TOTALS;
 
 // The header: the words with the application number and the sequence count, the length field, the time, a zero.
 pub const APPLICATION_AT: usize = 0;
@@ -47,10 +50,6 @@ pub const CODE_BYTES: usize = 2;
 pub const RECORD_BYTES: usize = 4;
 
 // A rate packet: the codes of totals and boxes, then a zero, hvstep, the flags, LIMHI, the table sum.
-pub const TOTALS: usize = 8;
-
-pub const BOXES: usize = 116;
-
 pub const RATES: usize = TOTALS + BOXES;
 
 pub const BOXES_AT: usize = BODY_AT + CODE_BYTES * TOTALS;
@@ -78,8 +77,6 @@ pub const JUNK: u8 = 16;
 pub const RECORDS: usize = 64;
 
 // A beacon packet: its codes, and bytes without use.
-pub const BEACONS: usize = 12;
-
 pub const BEACON_END: usize = BODY_AT + CODE_BYTES * BEACONS;
 
 pub const BEACON_UNUSED: usize = FRAME_AT - BEACON_END;

@@ -6,13 +6,14 @@ ghost use Rattle.wire.specs.Bytes.{put};
 ghost use Rattle.wire.specs.Lists.{EachBelow};
 ghost use Rattle.rate_code.specs.Rate.{countLimit};
 ghost use Rattle.rate_code.specs.Editions.{secondMark};
+ghost use Rattle.boxes.specs.Boxes.{boxCount, beaconCount, totalCount};
 ghost use Rattle.packet.specs.Layout.{packetBytes, frameAt, sumAt, gapAt, codeBytes};
-ghost use Rattle.packet.specs.Layout.{totalCount, boxCount, recordCount, beaconCount};
-ghost use Rattle.packet.specs.Packet.{lastSample, trailer, codes, settingsFlags, settingsBytes};
+ghost use Rattle.packet.specs.Layout.{recordCount};
+ghost use Rattle.packet.specs.Packet.{trailer, codes, settingsFlags, settingsBytes};
 ghost use Rattle.packet.specs.Packet.{ratePacket, samplePacket, beaconPacket};
 use crate::applications::BEACON_APPLICATION;
 use crate::applications::RATE_APPLICATION;
-use crate::applications::SAMPLE_APPLICATION;
+use crate::applications::of_sample;
 use crate::envelope::write_header;
 use crate::envelope::write_sum;
 use crate::layout;
@@ -98,15 +99,9 @@ pub fn write_rate<'a>(
 // The sample packet that the stamp's mark numbers, with the records straight in their place.
 pub fn write_samples(part: &mut [u8], stamp: Stamp, records: &[u32])
     requires { ⌜ (length (now part) ≡ packetBytes) × (length (now records) ≡ recordCount) ⌝ }
-    requires { ⌜ stamp .mark ≤ lastSample ⌝ }
     ensures { λ _. ⌜ now (part .exit) ≡ samplePacket stamp (now (records .entry)) ⌝ }
 {
-    write_header(
-        part,
-        SAMPLE_APPLICATION + (stamp.mark as u16),
-        stamp.sequence,
-        stamp.time,
-    );
+    write_header(part, of_sample(stamp.mark), stamp.sequence, stamp.time);
     wire::write::put_words(part, layout::BODY_AT, records);
     write_trailer(part, stamp);
     write_sum(part);

@@ -3,6 +3,8 @@ mod cases;
 mod show;
 mod values;
 
+use boxes::BEACONS;
+use boxes::BOXES;
 use packet::layout;
 use packet::stamp::stamp_of;
 use rate_code::editions::SECOND_MARK;
@@ -11,7 +13,7 @@ use settings::Settings;
 fn main() {
     let mut part = [255u8; layout::PACKET_BYTES];
     let totals = [4095u32, 4096, 4097, 8191, 8192, 1000000, 16777215, 0];
-    let mut boxes = [0u32; layout::BOXES];
+    let mut boxes = [0u32; BOXES];
     values::fill_counts(&mut boxes, 1);
     let s = Settings {
         limhi: 704,
@@ -30,7 +32,7 @@ fn main() {
     packet::write::write_samples(&mut part, stamp_of(40000, 4294967295, 10), &records);
     show::packet(&part);
     cases::sample(&part);
-    let mut beacons = [0u32; layout::BEACONS];
+    let mut beacons = [0u32; BEACONS];
     values::fill_counts(&mut beacons, 99);
     packet::write::write_beacon(&mut part, stamp_of(65535, 60, SECOND_MARK), &beacons);
     show::packet(&part);

@@ -1,8 +1,8 @@
 // Lines of output.
+use boxes::BEACONS;
 use decode::kind::Kind;
 use ground::Packet;
 use libc::STDOUT_FILENO;
-use packet::layout::BEACONS;
 use packet::layout::RATES;
 use settings::Settings;
 use wire::bits::bit;

@@ -1,5 +1,5 @@
 -- The call `listing` (document 02, Point 1: "A call writes packet i .. Listing changes nothing aboard"). Assumes nothing.
-use mathlib.Core.Bool.{_&&_}
+use mathlib.Core.Bool.{Bool, _&&_}
 use mathlib.Core.List.{List, [], _∷_}
 use Prim.Native.Nat.{ℕ}
 use lib.Dec.{eqb, ltb}
@@ -13,16 +13,16 @@ use Rattle.state.specs.declared.State.{State}
 use Rattle.state.specs.Limits.{withinLimits}
 use Rattle.processor.specs.Answer.{ifCarriedOut}
 
--- "lent buffer .. of other length", from the lengths of the tables and the output, "or a state over a limit"; "14 when i .. is none
--- of these"
-abbrev pub listingChecks : State → (i tables out : ℕ) → List Check
-listingChecks s i tables out =
-    (withinLimits s && eqb tables tableBytes && eqb out packetBytes, cause.bufferOrState)
-    ∷ (ltb i listingPackets, cause.notListed)
-    ∷ []
+-- no "lent buffer .. of other length", from the lengths of the tables and the output
+abbrev pub listingLent : (tables out : ℕ) → Bool
+listingLent tables out = eqb tables tableBytes && eqb out packetBytes
+
+-- what is lent, and the state, are sound; "14 when i .. is none of these"
+abbrev pub listingChecks : (sound : Bool) (i : ℕ) → List Check
+listingChecks sound i = (sound, cause.bufferOrState) ∷ (ltb i listingPackets, cause.notListed) ∷ []
 
 unfoldable pub listingNumber : State → (i tables out : ℕ) → ℕ
-listingNumber s i tables out = numberBy (listingChecks s i tables out)
+listingNumber s i tables out = numberBy (listingChecks (withinLimits s && listingLent tables out) i)
 
 -- what the call hands back and leaves in the lent output; it hands back no state
 pub record ListingDone : Type 0 where

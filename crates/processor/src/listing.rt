@@ -10,10 +10,10 @@ fn listing_number(s: State, i: u16, tables: usize, out: usize) -> u8
     ensures { λ r. ⌜ r ≡ listingNumber s i tables out ⌝ }
 {
     let limits = state::limits::within_limits(s);
-    let sound = limits & (tables == tables::TABLE_BYTES) & (out == PACKET_BYTES);
+    let lent = (tables == tables::TABLE_BYTES) & (out == PACKET_BYTES);
     let listed = (i as usize) < listing_packet::layout::PACKETS;
     let other = unless(listed, causes::NOT_LISTED, causes::CARRIED_OUT);
-    unless(sound, causes::BUFFER_OR_STATE, other)
+    unless(limits & lent, causes::BUFFER_OR_STATE, other)
 }
 
 // Packet i of the 250 that bring the tables down: 1, 14, or 0 with the packet in `out`. Nothing aboard changes.

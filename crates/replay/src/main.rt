@@ -1,17 +1,18 @@
 // Reads tables.bin and a list of calls from standard input, carries them out and prints every answer.
 ghost use mathlib.Core.Path.{_≡_};
+ghost use lib.ListN.{length};
 ghost use Rattle.buffered.specs.Input.{Held};
 ghost use Rattle.replay_calls.specs.Ground.{gatherer};
-ghost use Rattle.replay_records.specs.Record.{LiesIn};
+ghost use Rattle.replay_calls.specs.Record.{LiesIn};
 ghost use Rattle.replay.specs.Step.{Stepped, groundStepped};
 use buffered::input::Input;
 use buffered::text::OVER;
 use buffered::turns::MOST_TURNS;
 use buffered::turns::left;
-use ground::gather::Gathered;
+use gatherer::Gathered;
 use replay_calls::calls;
 use replay_calls::ground_calls;
-use replay_records::records;
+use replay_calls::records;
 use state::State;
 use stream::record::Next;
 use stream::record::Step;
@@ -39,7 +40,7 @@ fn step(
     found: Next,
     tables: &mut [u8],
     staging: &mut [u8],
-    marks: &mut [u8],
+    bitmap: &mut [u8],
     slots: &mut [u32],
     echo: &mut [u8],
     table: &mut [u8],
@@ -49,11 +50,12 @@ fn step(
 ) -> Done
     requires { ⌜ LiesIn found (now buffer) ⌝ }
     ensures input { λ r. ⌜ Held (r .step .input) (now (buffer .entry)) ⌝ }
-    ensures step { λ r. ⌜ Stepped found state (now (tables .entry)) (now (staging .entry)) (now (marks .entry)) (now (slots .entry))
-        (now (echo .entry)) (now (buffer .entry)) (r .step) (now (tables .exit)) (now (staging .exit)) (now (marks .exit)) (now (slots .exit))
+    ensures step { λ r. ⌜ Stepped found state (now (tables .entry)) (now (staging .entry)) (now (bitmap .entry)) (now (slots .entry))
+        (now (echo .entry)) (now (buffer .entry)) (r .step) (now (tables .exit)) (now (staging .exit)) (now (bitmap .exit)) (now (slots .exit))
         (now (echo .exit)) ⌝ }
     ensures ground { λ r. ⌜ gatherer (r .gathered) (now (table .exit))
-        ≡ groundStepped found (gatherer gathered (now (table .entry))) (now (buffer .entry)) ⌝ }
+        ≡ groundStepped found (gatherer gathered (now (table .entry))) (now (buffer .entry))
+        (length (now (slots .entry))) ⌝ }
 {
     match found {
         Next::End => both(stopped(state), gathered),
@@ -66,12 +68,15 @@ fn step(
         } => {
             let to = rest.at;
             let body = &buffer[from..to];
+            if !records::is_right(kind, body, slots.len()) {
+                return both(bad(state, text, at), gathered);
+            }
             let after = calls::carry_out(
                 kind,
                 state,
                 tables,
                 staging,
-                marks,
+                bitmap,
                 slots,
                 echo,
                 body,
@@ -88,15 +93,15 @@ fn step(
 fn run(
     tables: &mut [u8],
     staging: &mut [u8],
-    marks: &mut [u8],
+    bitmap: &mut [u8],
     slots: &mut [u32],
     echo: &mut [u8],
     table: &mut [u8],
     buffer: &mut [u8],
     text: &mut [u8],
 ) {
-    let mut state = state::fresh();
-    let mut gathered = ground::gather::none();
+    let mut state = stream::start::fresh();
+    let mut gathered = gatherer::none();
     let mut input = buffered::input::none();
     let mut at: usize = 0;
     let mut turns = MOST_TURNS;
@@ -108,7 +113,7 @@ fn run(
             found,
             tables,
             staging,
-            marks,
+            bitmap,
             slots,
             echo,
             table,
@@ -132,8 +137,8 @@ fn main() {
         return;
     }
     let mut staging = [0u8; load::staging::STAGING_BYTES];
-    let mut marks = [0u8; load::marks::MARKS_BYTES];
-    let mut slots = [0u32; settings::SLOTS as usize];
+    let mut bitmap = [0u8; load::bitmap::BITMAP_BYTES];
+    let mut slots = [0u32; stream::start::SLOTS];
     let mut echo = [0u8; echo::ECHO_BYTES];
     let mut table = [0u8; tables::TABLE_BYTES];
     let mut buffer = [0u8; buffered::input::INPUT_BYTES];
@@ -141,7 +146,7 @@ fn main() {
     run(
         &mut tables,
         &mut staging,
-        &mut marks,
+        &mut bitmap,
         &mut slots,
         &mut echo,
         &mut table,

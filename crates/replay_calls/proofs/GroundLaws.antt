@@ -5,7 +5,7 @@ use Prim.Native.Nat.{ℕ}
 use lib.ListN.{length}
 use borrow.Author.Tests.{ne-eqb}
 use Rattle.wire.specs.Bytes.{zeros}
-use Rattle.ground.specs.GatherTheorems.{Gatherer, given, freshGatherer}
+use Rattle.gatherer.specs.GatherTheorems.{Gatherer, given, freshGatherer}
 use Rattle.replay_calls.specs.Ground.{groundOut}
 
 module _ (kind : ℕ) (g after : Gatherer) (body : List ℕ) where

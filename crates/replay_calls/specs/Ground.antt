@@ -5,8 +5,8 @@ use Prim.Native.Nat.{ℕ}
 use lib.Dec.{eqb}
 use lib.ListN.{length}
 use Rattle.wire.specs.Bytes.{zeros}
-use Rattle.ground.specs.declared.gather.Gathered.{Gathered}
-use Rattle.ground.specs.GatherTheorems.{Gatherer, given, freshGatherer}
+use Rattle.gatherer.specs.declared.Gathered.{Gathered}
+use Rattle.gatherer.specs.GatherTheorems.{Gatherer, given, freshGatherer}
 
 -- what has come, and the table buffer that it was put into
 abbrev pub gatherer : Gathered → (table : List ℕ) → Gatherer

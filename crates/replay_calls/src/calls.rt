@@ -1,17 +1,25 @@
 // The calls aboard, each with its answer printed.
+ghost use mathlib.Core.Bool.{true};
 ghost use mathlib.Core.Path.{_≡_};
+ghost use Prim.Native.Nat.{_*_};
 ghost use lib.ListN.{length};
 ghost use Rattle.wire.specs.Bytes.{zeros, at32};
-ghost use Rattle.output.specs.Output.{outBytes};
+ghost use Rattle.image.specs.Layout.{imageBytes};
+ghost use Rattle.image.specs.Image.{numbersAt, stateOf, imageOf};
 ghost use Rattle.processor.specs.Close.{closeDone};
 ghost use Rattle.processor.specs.Line.{lineDone};
 ghost use Rattle.processor.specs.Package.{packageDone};
 ghost use Rattle.processor.specs.Reading.{readingDone};
 ghost use Rattle.stream.specs.Record.{countsIn, recordDone};
-ghost use Rattle.replay_calls.specs.Calls.{carriedOut, Left};
-ghost use Rattle.replay_records.specs.Record.{Long};
-use replay_records::records::LISTING;
-use replay_records::records::PACKAGE;
+ghost use Rattle.stream.specs.Start.{outBytes};
+ghost use Rattle.replay_calls.specs.Calls.{kindDone, Left};
+ghost use Rattle.replay_calls.specs.Record.{Long, bodyRight};
+use crate::records::LISTING;
+use crate::records::PACKAGE;
+use crate::records::SHOW;
+use crate::records::SLOTS;
+use crate::records::STATE;
+use image::layout::IMAGE_BYTES;
 use state::State;
 
 fn event(
@@ -43,18 +51,18 @@ fn reading(state: State, body: &[u8], text: &mut [u8], at: &mut usize) -> State
 fn line(
     state: State,
     staging: &[u8],
-    marks: &[u8],
+    bitmap: &[u8],
     echo: &mut [u8],
     body: &[u8],
     text: &mut [u8],
     at: &mut usize,
 ) -> State
     ensures answer { λ r. ⌜ r
-        ≡ lineDone state (now (body .entry)) (now (staging .entry)) (now (marks .entry)) (now (echo .entry)) .answer .state ⌝ }
+        ≡ lineDone state (now (body .entry)) (now (staging .entry)) (now (bitmap .entry)) (now (echo .entry)) .answer .state ⌝ }
     ensures echo { λ r. ⌜ now (echo .exit)
-        ≡ lineDone state (now (body .entry)) (now (staging .entry)) (now (marks .entry)) (now (echo .entry)) .echo ⌝ }
+        ≡ lineDone state (now (body .entry)) (now (staging .entry)) (now (bitmap .entry)) (now (echo .entry)) .echo ⌝ }
 {
-    let answer = processor::line::line(state, body, staging, marks, echo);
+    let answer = processor::line::line(state, body, staging, bitmap, echo);
     answers::calls::print_line(text, at, answer.number, echo, answer.sum);
     answer.state
 }
@@ -62,22 +70,22 @@ fn line(
 fn package(
     state: State,
     staging: &mut [u8],
-    marks: &mut [u8],
+    bitmap: &mut [u8],
     echo: &mut [u8],
     body: &[u8],
     text: &mut [u8],
     at: &mut usize,
 ) -> State
     ensures answer { λ r. ⌜ r
-        ≡ packageDone state (now (body .entry)) (now (staging .entry)) (now (marks .entry)) (now (echo .entry)) .answer .state ⌝ }
+        ≡ packageDone state (now (body .entry)) (now (staging .entry)) (now (bitmap .entry)) (now (echo .entry)) .answer .state ⌝ }
     ensures staging { λ r. ⌜ now (staging .exit)
-        ≡ packageDone state (now (body .entry)) (now (staging .entry)) (now (marks .entry)) (now (echo .entry)) .staging ⌝ }
-    ensures marks { λ r. ⌜ now (marks .exit)
-        ≡ packageDone state (now (body .entry)) (now (staging .entry)) (now (marks .entry)) (now (echo .entry)) .marks ⌝ }
+        ≡ packageDone state (now (body .entry)) (now (staging .entry)) (now (bitmap .entry)) (now (echo .entry)) .staging ⌝ }
+    ensures bitmap { λ r. ⌜ now (bitmap .exit)
+        ≡ packageDone state (now (body .entry)) (now (staging .entry)) (now (bitmap .entry)) (now (echo .entry)) .bitmap ⌝ }
     ensures echo { λ r. ⌜ now (echo .exit)
-        ≡ packageDone state (now (body .entry)) (now (staging .entry)) (now (marks .entry)) (now (echo .entry)) .echo ⌝ }
+        ≡ packageDone state (now (body .entry)) (now (staging .entry)) (now (bitmap .entry)) (now (echo .entry)) .echo ⌝ }
 {
-    let answer = processor::load_package::package(state, body, staging, marks, echo);
+    let answer = processor::load_package::package(state, body, staging, bitmap, echo);
     answers::calls::print_package(text, at, answer.number, echo);
     answer.state
 }
@@ -104,9 +112,10 @@ fn close(
         (zeros outBytes) .slots ⌝ }
 {
     let time = wire::read::u32_at(body, 0);
-    let mut packets = [0u8; output::OUT_BYTES];
+    let mut packets = [0u8; stream::start::OUT_BYTES];
     let closed = processor::close::close(state, time, tables, staging, slots, &mut packets);
-    answers::close::print_close(text, at, state.frame, closed, &packets);
+    let ended = closed.summary;
+    answers::close::print_close(text, at, state.frame, closed.number, ended, &packets);
     closed.state
 }
 
@@ -121,13 +130,45 @@ fn listing(state: State, tables: &[u8], body: &[u8], text: &mut [u8], at: &mut u
     answers::listing::print_written(text, at, b"listing", number, &out);
 }
 
+// A state in place of the one there is.
+fn hand_in(body: &[u8], text: &mut [u8], at: &mut usize) -> State
+    requires { ⌜ length (now body) ≡ imageBytes ⌝ }
+    ensures { λ r. ⌜ r ≡ stateOf (now (body .entry)) ⌝ }
+{
+    answers::calls::print_state(text, at);
+    image::read::decode(body)
+}
+
+// The bytes that are shown of a state.
+fn shown(state: State) -> [u8; IMAGE_BYTES]
+    ensures { λ r. ⌜ r ≡ imageOf state ⌝ }
+{
+    let mut bytes = [0u8; IMAGE_BYTES];
+    image::write::encode(&mut bytes, state);
+    bytes
+}
+
+fn show(state: State, text: &mut [u8], at: &mut usize) {
+    let bytes = shown(state);
+    answers::calls::print_shown(text, at, &bytes);
+}
+
+// All slots in place of those there are.
+fn hand_in_slots(slots: &mut [u32], body: &[u8], text: &mut [u8], at: &mut usize)
+    requires { ⌜ length (now body) ≡ 4 * length (now slots) ⌝ }
+    ensures { λ _. ⌜ now (slots .exit) ≡ numbersAt (now (body .entry)) 0 (length (now (slots .entry))) ⌝ }
+{
+    image::read::words_at(body, 0, slots);
+    answers::calls::print_slots(text, at);
+}
+
 // One record, of which those of the ground change nothing aboard.
 pub fn carry_out(
     kind: u8,
     state: State,
     tables: &mut [u8],
     staging: &mut [u8],
-    marks: &mut [u8],
+    bitmap: &mut [u8],
     slots: &mut [u32],
     echo: &mut [u8],
     body: &[u8],
@@ -135,19 +176,29 @@ pub fn carry_out(
     at: &mut usize,
 ) -> State
     requires { ⌜ Long kind (length (now body)) ⌝ }
+    requires { ⌜ bodyRight kind (now body) (length (now slots)) ≡ true ⌝ }
     ensures { λ r. ⌜ Left
-        (carriedOut kind state (now (tables .entry)) (now (staging .entry)) (now (marks .entry)) (now (slots .entry)) (now (echo .entry))
+        (kindDone kind state (now (tables .entry)) (now (staging .entry)) (now (bitmap .entry)) (now (slots .entry)) (now (echo .entry))
         (now (body .entry)))
-        r (now (tables .exit)) (now (staging .exit)) (now (marks .exit)) (now (slots .exit)) (now (echo .exit)) ⌝ }
+        r (now (tables .exit)) (now (staging .exit)) (now (bitmap .exit)) (now (slots .exit)) (now (echo .exit)) ⌝ }
 {
     match kind {
         stream::record::EVENT => event(state, tables, slots, body, text, at),
         stream::record::READING => reading(state, body, text, at),
-        stream::record::LINE => line(state, staging, marks, echo, body, text, at),
+        stream::record::LINE => line(state, staging, bitmap, echo, body, text, at),
         stream::record::CLOSE => close(state, tables, staging, slots, body, text, at),
-        PACKAGE => package(state, staging, marks, echo, body, text, at),
+        PACKAGE => package(state, staging, bitmap, echo, body, text, at),
         LISTING => {
             listing(state, tables, body, text, at);
+            state
+        }
+        STATE => hand_in(body, text, at),
+        SHOW => {
+            show(state, text, at);
+            state
+        }
+        SLOTS => {
+            hand_in_slots(slots, body, text, at);
             state
         }
         _ => state,

@@ -2,14 +2,14 @@
 ghost use mathlib.Core.Path.{_≡_};
 ghost use lib.ListN.{length};
 ghost use Rattle.wire.specs.Bytes.{zeros};
-ghost use Rattle.ground.specs.GatherTheorems.{given, freshGatherer};
+ghost use Rattle.gatherer.specs.GatherTheorems.{given, freshGatherer};
 ghost use Rattle.replay_calls.specs.Ground.{gatherer, groundOut};
-use ground::gather::Gathered;
-use replay_records::records::GATHER;
-use replay_records::records::GATHERED;
-use replay_records::records::PACKET;
-use replay_records::records::TO_FIRST;
-use replay_records::records::TO_SECOND;
+use crate::records::GATHER;
+use crate::records::GATHERED;
+use crate::records::PACKET;
+use crate::records::TO_FIRST;
+use crate::records::TO_SECOND;
+use gatherer::Gathered;
 
 // Bytes given to the gatherer.
 fn gather(
@@ -21,9 +21,9 @@ fn gather(
 ) -> Gathered
     ensures { λ r. ⌜ gatherer r (now (table .exit)) ≡ given (gatherer gathered (now (table .entry))) (now (body .entry)) ⌝ }
 {
-    let answer = ground::gather::gather(gathered, body, table);
+    let answer = gatherer::gather(gathered, body, table);
     let after = answer.gathered;
-    let missing = ground::gather::missing(after);
+    let missing = gatherer::missing(after);
     answers::listing::print_gather(text, at, answer.number, missing);
     after
 }
@@ -32,24 +32,24 @@ fn gather(
 fn hand_over(gathered: Gathered, table: &mut [u8], text: &mut [u8], at: &mut usize) -> Gathered
     ensures { λ r. ⌜ gatherer r (now (table .exit)) ≡ freshGatherer (zeros (length (now (table .entry)))) ⌝ }
 {
-    let missing = ground::gather::missing(gathered);
+    let missing = gatherer::missing(gathered);
     answers::listing::print_gathered(text, at, missing, table);
     let n = table.len();
     wire::write::put_zeros(table, 0, n);
-    ground::gather::none()
+    gatherer::none()
 }
 
 // Bytes converted to the second edition.
 fn to_second(body: &[u8], text: &mut [u8], at: &mut usize) {
     let mut out = [0u8; packet::layout::PACKET_BYTES];
-    let number = ground::convert::to_second(body, &mut out);
+    let number = converter::to_second(body, &mut out);
     answers::listing::print_written(text, at, b"second", number, &out);
 }
 
 // And to the first.
 fn to_first(body: &[u8], text: &mut [u8], at: &mut usize) {
     let mut out = [0u8; packet::layout::PACKET_BYTES];
-    let number = ground::convert::to_first(body, &mut out);
+    let number = converter::to_first(body, &mut out);
     answers::listing::print_written(text, at, b"first", number, &out);
 }
 

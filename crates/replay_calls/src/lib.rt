@@ -1,3 +1,4 @@
-// The calls of replay, aboard and on the ground, each with its answer printed.
+// The records of replay, and the calls that carry them out, aboard and on the ground, each with its answer printed.
 pub mod calls;
 pub mod ground_calls;
+pub mod records;

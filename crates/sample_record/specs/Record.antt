@@ -2,6 +2,7 @@
 use mathlib.Core.Bool.{Bool, _&&_, _||_}
 use Prim.Native.Nat.{ℕ, _+_, _*_, _/_, _%_, _^_, _<_}
 use lib.Dec.{eqb, leb}
+use Rattle.boxes.specs.Boxes.{boxCount, outOfBoundsBox}
 use Rattle.wire.specs.Bits.{bitOf}
 use Rattle.sample_record.specs.declared.Sample.{Sample}
 
@@ -37,4 +38,4 @@ recordBox x = x / 2 ^ 1 % 2 ^ 7
 
 -- "each slot zero or of box 6 to 116"; a "non-zero record with box outside 6 to 116" is a fault
 abbrev pub recordGood : ℕ → Bool
-recordGood x = eqb x 0 || (leb 6 (recordBox x) && leb (recordBox x) 116)
+recordGood x = eqb x 0 || (leb outOfBoundsBox (recordBox x) && leb (recordBox x) boxCount)

@@ -3,6 +3,8 @@ ghost use mathlib.Core.Path.{_≡_};
 ghost use Prim.Native.Nat.{_+_, _*_, _/_, _%_, _^_, _≤_, _<_};
 ghost use Rattle.wire.specs.Bits.{bitOf};
 ghost use Rattle.sample_record.specs.Record.{SampleFits, recordOf, sampleOf, recordBox, recordGood};
+use boxes::LAST_BOX;
+use boxes::OUT_OF_BOUNDS_BOX;
 use wire::bits::bit;
 
 // A record's fields, from bit 31 down.
@@ -21,11 +23,6 @@ pub struct Sample {
 pub const CHANNEL_BITS: u32 = 11;
 
 pub const BOX_BITS: u32 = 7;
-
-// The boxes that a record may have.
-pub const FIRST_BOX: u8 = 6;
-
-pub const LAST_BOX: u8 = 116;
 
 fn flag_bit(flag: bool) -> u32
     ensures { λ r. ⌜ (r ≡ bitOf flag) × (r ≤ 1) ⌝ }
@@ -89,5 +86,5 @@ pub fn record_good(x: u32) -> bool
     ensures { λ r. ⌜ r ≡ recordGood x ⌝ }
 {
     let b = record_box(x);
-    (x == 0) | ((FIRST_BOX as u32 <= b) & (b <= LAST_BOX as u32))
+    (x == 0) | ((OUT_OF_BOUNDS_BOX as u32 <= b) & (b <= LAST_BOX as u32))
 }

@@ -1,2 +1,4 @@
 pub mod RecordLaws
 pub mod SampleLaws
+pub mod Places
+pub mod SelectionLaws

@@ -17,7 +17,7 @@ use Rattle.wire.specs.Pieces.{padded}
 use Rattle.wire.proofs.Lists.{keep-append, keep-one, length-keep}
 use Rattle.wire.proofs.Pieces.{padded-fill, padded-set}
 use Rattle.samples.specs.declared.slots.SlotUse.{SlotUse}
-use Rattle.samples.specs.Samples.{Place, free, late, none, placeOf, slotsAfter, useAfter, filled}
+use Rattle.samples.specs.Samples.{Place, free, replace, none, placeOf, slotsAfter, useAfter, filled}
 use Rattle.samples.specs.Samples.{firstFrom, replacersFrom, replacedFrom, sampledFrom, slotsFrom, useFrom}
 use Rattle.samples.specs.Samples.{replacedBy, sampled, slotsOf, useOf}
 
@@ -208,9 +208,9 @@ module _ {A : Type 0} (p : A → Bool) (rec : A → ℕ) (N lim : ℕ) (q : lim 
       unfolding replacersFrom
       replacers-one = rw (drop-at s (e ∷ []) N full, keep-one)
 
-      place-late : p e ≡ true → r < lim → Agrees late
+      place-replace : p e ≡ true → r < lim → Agrees replace
       unfolding sampledFrom replacedFrom
-      place-late b v =
+      place-replace b v =
           let hi : replacersFrom p N lim s r (e ∷ []) ≡ e ∷ [] = replacers-one ∙ rw b (take-all (lim - r) (e ∷ []) (omega arith)) in
           let x : r < length s = omega arith in (
             rw (hi, take-at s (e ∷ []) N full, over-one r s e x, map-set) (padded-set N (map rec s) r (rec e) (rw length-map x)),
@@ -225,9 +225,9 @@ module _ {A : Type 0} (p : A → Bool) (rec : A → ℕ) (N lim : ℕ) (q : lim 
             rw (replacers-one ∙ hi) (λ i. record { used = used-full i; replaced = z i }),
           )
 
-    place-by : (b₁ b₂ b₃ : Bool) → ltb (length s) N ≡ b₁ → p e ≡ b₂ → ltb r lim ≡ b₃ → Agrees (cond b₁ free (cond (b₂ && b₃) late none))
+    place-by : (b₁ b₂ b₃ : Bool) → ltb (length s) N ≡ b₁ → p e ≡ b₂ → ltb r lim ≡ b₃ → Agrees (cond b₁ free (cond (b₂ && b₃) replace none))
     place-by true b₂ b₃ q₁ q₂ q₃ = place-free (ltb-true _ _ q₁)
-    place-by false true true q₁ q₂ q₃ = place-late (ltb-false _ _ q₁) q₂ (ltb-true _ _ q₃)
+    place-by false true true q₁ q₂ q₃ = place-replace (ltb-false _ _ q₁) q₂ (ltb-true _ _ q₃)
     place-by false true false q₁ q₂ q₃ = let z : lim - r ≡ 0 = omega (arith, ltb-false) in place-none (ltb-false _ _ q₁) (rw z)
     place-by false false b₃ q₁ q₂ q₃ = place-none (ltb-false _ _ q₁) (rw q₂ (take-nil (lim - r)))
 

@@ -11,7 +11,7 @@ use Rattle.sample_record.specs.Record.{recordOf}
 use Rattle.sort.specs.declared.event.Event.{Event}
 use Rattle.sort.specs.declared.sorting.Outcome.{Outcome}
 use Rattle.sort.specs.declared.sorting.Outcome.the-variants.{Discarded, OutOfBounds, InCell}
-use Rattle.sort.specs.Boxes.{discardedBox, outOfBoundsBox}
+use Rattle.boxes.specs.Boxes.{discardedBox, outOfBoundsBox}
 use Rattle.sort.specs.Event.{gainOf, channelOf}
 use Rattle.samples.specs.declared.slots.SlotUse.{SlotUse}
 
@@ -53,21 +53,21 @@ eventRecord e o = recordOf (sampleFrom e o)
 -- a record goes to the first slot that is free, to the slot of the next replacement, or nowhere
 pub data Place : Type 0 where
   free : Place
-  late : Place
+  replace : Place
   none : Place
 
 -- with this many slots, so many of them used and replaced
 unfoldable pub placeOf : (slots : ℕ) → SlotUse → (limhi : ℕ) (priority : Bool) → Place
-placeOf slots u limhi priority = cond (ltb (u .used) slots) free (cond (priority && ltb (u .replaced) limhi) late none)
+placeOf slots u limhi priority = cond (ltb (u .used) slots) free (cond (priority && ltb (u .replaced) limhi) replace none)
 
 abbrev pub slotsAfter : Place → List ℕ → SlotUse → (rec : ℕ) → List ℕ
 slotsAfter free slots u rec = set slots (u .used) rec
-slotsAfter late slots u rec = set slots (u .replaced) rec
+slotsAfter replace slots u rec = set slots (u .replaced) rec
 slotsAfter none slots u rec = slots
 
 abbrev pub useAfter : Place → SlotUse → SlotUse
 useAfter free u = record { used = u .used + 1; replaced = u .replaced }
-useAfter late u = record { used = u .used; replaced = u .replaced + 1 }
+useAfter replace u = record { used = u .used; replaced = u .replaced + 1 }
 useAfter none u = u
 
 -- ---- the rule, with N slots: `start` is what they hold so far (N at most), the first `replaced` of it are replaced already,

@@ -1,5 +1,6 @@
 // Which events are eligible as samples, and their records; the slots that take them are in the modules.
 pub mod at_close;
+pub mod selection;
 pub mod slots;
 
 ghost use mathlib.Core.Path.{_≡_};
@@ -8,9 +9,9 @@ ghost use Prim.Native.Nat.{_<_};
 ghost use Rattle.sort.specs.Boxes.{OutcomeNames};
 ghost use Rattle.sort.specs.Event.{inRange};
 ghost use Rattle.samples.specs.Samples.{boxOf, priorityOf, eligible, eventRecord};
+use boxes::DISCARDED_BOX;
+use boxes::OUT_OF_BOUNDS_BOX;
 use sample_record::Sample;
-use sort::boxes::DISCARDED_BOX;
-use sort::boxes::OUT_OF_BOUNDS_BOX;
 use sort::event;
 use sort::event::Event;
 use sort::sorting::Outcome;

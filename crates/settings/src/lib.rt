@@ -2,9 +2,6 @@
 ghost use mathlib.Core.Path.{_≡_};
 ghost use Rattle.settings.specs.Settings.{freshSettings, settingsWithin};
 
-// How many sample slots there are, and how many of them LIMHI can let be replaced.
-pub const SLOTS: u16 = 704;
-
 pub struct Settings {
     // How many sample slots later events of priority 1 may replace.
     pub limhi: u16,
@@ -14,7 +11,9 @@ pub struct Settings {
     pub toferror: bool,
     // Events of boxes 6 and 7 are eligible as samples.
     pub junk: bool,
+    // The high voltage supply is enabled.
     pub hv: bool,
+    // Its voltage, in steps.
     pub hvstep: u8,
 }
 
@@ -32,9 +31,9 @@ pub fn fresh() -> Settings
     }
 }
 
-// Whether each setting is in its range. Every value of the other fields is.
-pub fn within(s: Settings) -> bool
-    ensures { λ r. ⌜ r ≡ settingsWithin s ⌝ }
+// Whether each setting is in its range, LIMHI's largest value being given. Every value of the other fields is.
+pub fn within(s: Settings, limhi: u16) -> bool
+    ensures { λ r. ⌜ r ≡ settingsWithin limhi s ⌝ }
 {
-    s.limhi <= SLOTS
+    s.limhi <= limhi
 }

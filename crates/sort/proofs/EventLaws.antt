@@ -9,6 +9,7 @@ use lib.Dec.{leb, ltb}
 use borrow.Author.Tests.{leb-true, ltb-false}
 use Rattle.wire.proofs.Lists.{and-split}
 use Rattle.settings.specs.declared.Settings.{Settings}
+use Rattle.boxes.specs.Boxes.{boxCount, beaconCount, junkBox}
 use Rattle.sort.specs.declared.columns.Column.{Column}
 use Rattle.sort.specs.declared.columns.Column.the-variants.{Inside, Outside}
 use Rattle.sort.specs.declared.event.Event.{Event}
@@ -37,17 +38,17 @@ channel-fits e h = go (gainOf e) refl
     go false q = omega (arith, ltb-false 2047 (e .high) q)
 
 -- a cell names a box from 7 to 116 and at most beacon 12
-pub box-used : (b : ℕ) → (7 ≤ boxUsed b) × (boxUsed b ≤ 116)
-box-used b = go (leb 7 b && leb b 116) refl
+pub box-used : (b : ℕ) → (junkBox ≤ boxUsed b) × (boxUsed b ≤ boxCount)
+box-used b = go (leb junkBox b && leb b boxCount) refl
   where
-    go : (t : Bool) → (leb 7 b && leb b 116) ≡ t → (7 ≤ cond t b 7) × (cond t b 7 ≤ 116)
-    go true q = let p = and-split (leb 7 b) (leb b 116) q in (leb-true _ _ (p .0), leb-true _ _ (p .1))
+    go : (t : Bool) → (leb junkBox b && leb b boxCount) ≡ t → (junkBox ≤ cond t b junkBox) × (cond t b junkBox ≤ boxCount)
+    go true q = let p = and-split (leb junkBox b) (leb b boxCount) q in (leb-true _ _ (p .0), leb-true _ _ (p .1))
     go false q = omega arith
 
-pub beacon-used : (n : ℕ) → beaconUsed n ≤ 12
-beacon-used n = go (leb n 12) refl
+pub beacon-used : (n : ℕ) → beaconUsed n ≤ beaconCount
+beacon-used n = go (leb n beaconCount) refl
   where
-    go : (t : Bool) → leb n 12 ≡ t → cond t n 0 ≤ 12
+    go : (t : Bool) → leb n beaconCount ≡ t → cond t n 0 ≤ beaconCount
     go true q = leb-true _ _ q
     go false q = omega arith
 

@@ -4,6 +4,7 @@ use mathlib.Core.List.{List}
 use Prim.Native.Nat.{ℕ, _+_, _-_, _*_, _%_}
 use lib.Dec.{leb}
 use lib.ListN.{take, drop, getD}
+use Rattle.boxes.specs.Boxes.{boxCount, beaconCount, junkBox}
 use Rattle.tables.specs.Tables.{byteOf, matrix, timeOfFlight}
 use Rattle.sort.specs.declared.matrix.Cell.{Cell}
 
@@ -16,11 +17,11 @@ matrixOf tables = take matrixBytes (drop (byteOf matrix) tables)
 
 -- "Its box b is used if 7 to 116, else 7"
 abbrev pub boxUsed : ℕ → ℕ
-boxUsed b = cond (leb 7 b && leb b 116) b 7
+boxUsed b = cond (leb junkBox b && leb b boxCount) b junkBox
 
 -- "beacon 1 to 12 if the cell names one": 0 is none
 abbrev pub beaconUsed : ℕ → ℕ
-beaconUsed n = cond (leb n 12) n 0
+beaconUsed n = cond (leb n beaconCount) n 0
 
 -- "cell 128 × f_m + f_e": "first byte is priority (128) plus box (low seven bits); its second is the beacon number"
 unfoldable pub cellOf : List ℕ → (mass energy : ℕ) → Cell

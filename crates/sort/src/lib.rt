@@ -1,5 +1,4 @@
 // One event: its fields, its two columns, its matrix cell, and what becomes of it by rules 1 to 5.
-pub mod boxes;
 pub mod columns;
 pub mod event;
 pub mod matrix;

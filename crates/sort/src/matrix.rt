@@ -3,8 +3,9 @@ ghost use mathlib.Core.Path.{_≡_};
 ghost use Prim.Native.Nat.{_+_, _*_, _≤_, _<_};
 ghost use lib.ListN.{length};
 ghost use Rattle.sort.specs.Matrix.{matrixBytes, cellOf, boxUsed, beaconUsed};
-use crate::boxes::JUNK_BOX;
-use sample_record::LAST_BOX;
+use boxes::JUNK_BOX;
+use boxes::LAST_BEACON;
+use boxes::LAST_BOX;
 
 // What a cell says: a rate box from 7 to 116, the priority, and a beacon from 1 to 12, or 0 for none.
 pub struct Cell {
@@ -14,8 +15,6 @@ pub struct Cell {
 }
 
 pub const COLUMNS: usize = 128;
-
-pub const LAST_BEACON: u8 = 12;
 
 // A box outside 7 to 116 is the junk box.
 fn box_used(b: u8) -> u8

@@ -6,6 +6,8 @@ ghost use lib.ListN.{length};
 ghost use mathlib.Core.Bool.{true};
 ghost use Rattle.sort.specs.Event.{inRange};
 ghost use Rattle.tables.specs.Tables.{tableBytes};
+use boxes::BEACONS;
+use boxes::BOXES;
 use counts::Counts;
 use libc::STDOUT_FILENO;
 use sample_record::Sample;
@@ -198,8 +200,8 @@ fn show_sorted(s: Settings, tables: &[u8], e: Event)
     let o = sort::sorting::outcome_of(s, tables, e);
     let word = samples::record_of(e, o);
     let none = Counts {
-        boxes: [0u32; 116],
-        beacons: [0u32; 12],
+        boxes: [0u32; BOXES],
+        beacons: [0u32; BEACONS],
     };
     let c = counts::counted(none, o);
     number(samples::box_of(o) as u64);

@@ -1,25 +1,30 @@
--- The limits of a state and of its interval as facts, and back; and what they say of each count. Assumes nothing.
-use mathlib.Core.Path.{_≡_}
-use mathlib.Core.Bool.{true}
+-- The limits of a state and of its interval as facts, and back; what they say of each count; and what keeps them. Assumes nothing.
+use mathlib.Core.Path.{_≡_, _∙_}
+use mathlib.Core.Bool.{true, not}
 use Prim.Native.Nat.{ℕ, _*_, _≤_, _<_}
 use native.Mathlib.Omega.{arith}
 use borrow.Author.Tests.{leb-true, le-leb}
 use Rattle.wire.specs.Lists.{all, atMost, EachBelow}
 use Rattle.wire.proofs.Lists.{and-split, all-at}
-use Rattle.settings.specs.Settings.{slotCount, settingsWithin}
+use Rattle.capacity.specs.Capacity.{numbersOf}
+use Rattle.settings.specs.Settings.{settingsWithin}
 use Rattle.load.specs.Staging.{addressesWithin}
-use Rattle.orders.specs.Orders.{ordersWithin}
+use Rattle.load.specs.declared.staging.Addresses.{Addresses}
+use Rattle.command_list.specs.declared.CommandList.{CommandList}
+use Rattle.command_list.specs.CommandList.{loadWaits, commandListWithin}
+use Rattle.command_list.proofs.CommandListLaws.{any-reach}
 use Rattle.state.specs.declared.State.{State}
 use Rattle.state.specs.declared.interval.Interval.{Interval}
 use Rattle.state.specs.Interval.{mostEvents, mostReadings, intervalWithin}
-use Rattle.state.specs.Limits.{withinLimits}
+use Rattle.state.specs.Limits.{rangesOf, withinLimits}
+use Rattle.state.specs.State.{withInterval, withCommandList, withStaging}
 
 -- ---- a state
 
 pub record StateLimits (s : State) : Type 0 where
-  pub interval : intervalWithin (s .interval) ≡ true
-  pub settings : settingsWithin (s .settings) ≡ true
-  pub orders : ordersWithin (s .orders) (s .staging .reach) ≡ true
+  pub interval : intervalWithin (numbersOf (s .capacity) .slots) (s .interval) ≡ true
+  pub settings : settingsWithin (rangesOf s .limhi) (s .settings) ≡ true
+  pub commands : commandListWithin (s .commands) (rangesOf s) ≡ true
   pub staging : addressesWithin (s .staging) ≡ true
 
 pub state-limits : (s : State) → withinLimits s ≡ true → StateLimits s
@@ -28,27 +33,27 @@ state-limits s h =
     let p = and-split _ _ h in
     let q = and-split _ _ (p .0) in
     let r = and-split _ _ (q .0) in
-    record { interval = r .0; settings = r .1; orders = q .1; staging = p .1 }
+    record { interval = r .0; settings = r .1; commands = q .1; staging = p .1 }
 
 pub state-whole : (s : State) → StateLimits s → withinLimits s ≡ true
 unfolding withinLimits
-state-whole s l = rw (l .interval, l .settings, l .orders, l .staging)
+state-whole s l = rw (l .interval, l .settings, l .commands, l .staging)
 
 -- ---- an interval
 
-pub record IntervalLimits (i : Interval) : Type 0 where
+pub record IntervalLimits (slots : ℕ) (i : Interval) : Type 0 where
   pub taken-most : i .taken ≤ mostEvents
   pub boxes-most : all (atMost (i .taken)) (i .counts .boxes) ≡ true
   pub beacons-most : all (atMost (i .taken)) (i .counts .beacons) ≡ true
   pub used-taken : i .samples .used ≤ i .taken
-  pub used-most : i .samples .used ≤ slotCount
+  pub used-most : i .samples .used ≤ slots
   pub replaced-taken : i .samples .replaced ≤ i .taken
   pub readings-most : i .readings ≤ mostReadings
   pub totals-most : all (atMost (65535 * i .readings)) (i .totals) ≡ true
 
-pub interval-limits : (i : Interval) → intervalWithin i ≡ true → IntervalLimits i
+pub interval-limits : (slots : ℕ) (i : Interval) → intervalWithin slots i ≡ true → IntervalLimits slots i
 unfolding intervalWithin
-interval-limits i h =
+interval-limits slots i h =
     let p = and-split _ _ h in
     let q = and-split _ _ (p .0) in
     let c = and-split _ _ (q .0) in
@@ -67,9 +72,9 @@ interval-limits i h =
       totals-most = r .1;
     }
 
-pub interval-whole : (i : Interval) → IntervalLimits i → intervalWithin i ≡ true
+pub interval-whole : (slots : ℕ) (i : Interval) → IntervalLimits slots i → intervalWithin slots i ≡ true
 unfolding intervalWithin
-interval-whole i w =
+interval-whole slots i w =
     rw (
       le-leb _ _ (w .taken-most),
       w .boxes-most,
@@ -82,14 +87,36 @@ interval-whole i w =
     )
 
 -- every count is below n where taken is
-pub boxes-below : (n : ℕ) (i : Interval) → intervalWithin i ≡ true → i .taken < n → EachBelow n (i .counts .boxes)
-boxes-below n i w h k = omega (arith, all-at (i .taken) (i .counts .boxes) k (interval-limits i w .boxes-most))
+pub boxes-below : (n slots : ℕ) (i : Interval) → intervalWithin slots i ≡ true → i .taken < n → EachBelow n (i .counts .boxes)
+boxes-below n slots i w h k = omega (arith, all-at (i .taken) (i .counts .boxes) k (interval-limits slots i w .boxes-most))
 
-pub beacons-below : (n : ℕ) (i : Interval) → intervalWithin i ≡ true → i .taken < n → EachBelow n (i .counts .beacons)
-beacons-below n i w h k = omega (arith, all-at (i .taken) (i .counts .beacons) k (interval-limits i w .beacons-most))
+pub beacons-below : (n slots : ℕ) (i : Interval) → intervalWithin slots i ≡ true → i .taken < n → EachBelow n (i .counts .beacons)
+beacons-below n slots i w h k = omega (arith, all-at (i .taken) (i .counts .beacons) k (interval-limits slots i w .beacons-most))
 
 -- sixty readings make no total over 3,932,100
-pub totals-below : (i : Interval) → intervalWithin i ≡ true → EachBelow 4000000 (i .totals)
-totals-below i w k =
-    let l = interval-limits i w in
+pub totals-below : (slots : ℕ) (i : Interval) → intervalWithin slots i ≡ true → EachBelow 4000000 (i .totals)
+totals-below slots i w k =
+    let l = interval-limits slots i w in
     omega (arith, all-at (65535 * i .readings) (i .totals) k (l .totals-most), l .readings-most)
+
+-- ---- a state with another part
+
+pub interval-kept : (s : State) (i : Interval) → withinLimits s ≡ true → intervalWithin (numbersOf (s .capacity) .slots) i ≡ true
+    → withinLimits (withInterval s i) ≡ true
+interval-kept s i h k =
+    let l = state-limits s h in
+    state-whole (withInterval s i) record { interval = k; settings = l .settings; commands = l .commands; staging = l .staging }
+
+-- addresses that move where no load waits
+pub staging-kept : (s : State) (a : Addresses) → withinLimits s ≡ true → not (loadWaits (s .commands)) ≡ true → addressesWithin a ≡ true
+    → withinLimits (withStaging s a) ≡ true
+staging-kept s a h n k =
+    let l = state-limits s h in
+    let o = any-reach (s .commands) (numbersOf (s .capacity) .limhi) (a .reach) (s .staging .reach) n in
+    state-whole (withStaging s a) record { interval = l .interval; settings = l .settings; commands = o ∙ l .commands; staging = k }
+
+pub commands-kept : (s : State) (o : CommandList) → withinLimits s ≡ true → commandListWithin o (rangesOf s) ≡ true
+    → withinLimits (withCommandList s o) ≡ true
+commands-kept s o h k =
+    let l = state-limits s h in
+    state-whole (withCommandList s o) record { interval = l .interval; settings = l .settings; commands = k; staging = l .staging }

@@ -5,7 +5,7 @@ use mathlib.Core.List.{List}
 use lib.Dec.{leb}
 use Rattle.wire.specs.Bytes.{zeros}
 use Rattle.wire.specs.Lists.{all, atMost}
-use Rattle.settings.specs.Settings.{slotCount}
+use Rattle.boxes.specs.Boxes.{boxCount, beaconCount, totalCount}
 use Rattle.counts.specs.declared.Counts.{Counts}
 use Rattle.samples.specs.declared.slots.SlotUse.{SlotUse}
 use Rattle.state.specs.declared.interval.Interval.{Interval}
@@ -20,7 +20,7 @@ mostReadings = 60
 -- ---- an interval that begins
 
 abbrev pub noCounts : Counts
-noCounts = record { boxes = zeros 116; beacons = zeros 12 }
+noCounts = record { boxes = zeros boxCount; beacons = zeros beaconCount }
 
 -- "Fresh: .. counts and slots 0"
 abbrev pub freshInterval : Interval
@@ -29,7 +29,7 @@ freshInterval = record {
   counts = noCounts;
   samples = record { used = 0; replaced = 0 };
   readings = 0;
-  totals = zeros 8;
+  totals = zeros totalCount;
 }
 
 -- ---- what changes it
@@ -49,13 +49,15 @@ withReading i totals = record { taken = i .taken; counts = i .counts; samples = 
 abbrev pub countsWithin : (taken : ℕ) → Counts → Bool
 countsWithin taken c = leb taken mostEvents && all (atMost taken) (c .boxes) && all (atMost taken) (c .beacons)
 
--- ".. and other event count at most taken; 704 slots used"
-abbrev pub slotsWithin : (taken : ℕ) → SlotUse → Bool
-slotsWithin taken u = leb (u .used) taken && leb (u .used) slotCount && leb (u .replaced) taken
+-- ".. and other event count at most taken; 704 slots used": as many as there are
+abbrev pub slotsWithin : (slots taken : ℕ) → SlotUse → Bool
+slotsWithin slots taken u = leb (u .used) taken && leb (u .used) slots && leb (u .replaced) taken
 
 -- "readings 60; each total 65,535 × readings"
 abbrev pub readingsWithin : (readings : ℕ) (totals : List ℕ) → Bool
 readingsWithin readings totals = leb readings mostReadings && all (atMost (65535 * readings)) totals
 
-unfoldable pub intervalWithin : Interval → Bool
-intervalWithin i = countsWithin (i .taken) (i .counts) && slotsWithin (i .taken) (i .samples) && readingsWithin (i .readings) (i .totals)
+-- with this many slots
+unfoldable pub intervalWithin : (slots : ℕ) → Interval → Bool
+intervalWithin slots i =
+    countsWithin (i .taken) (i .counts) && slotsWithin slots (i .taken) (i .samples) && readingsWithin (i .readings) (i .totals)

@@ -2,6 +2,9 @@
 ghost use mathlib.Core.Path.{_≡_};
 ghost use Rattle.wire.specs.Lists.{all, atMost};
 ghost use Rattle.state.specs.Interval.{noCounts, freshInterval, countsWithin, slotsWithin, readingsWithin, intervalWithin};
+use boxes::BEACONS;
+use boxes::BOXES;
+use boxes::TOTALS;
 use counts::Counts;
 use samples::slots::SlotUse;
 
@@ -13,7 +16,7 @@ pub struct Interval {
     pub samples: SlotUse,
     // Second readings, and their sums.
     pub readings: u32,
-    pub totals: [u32; 8],
+    pub totals: [u32; TOTALS],
 }
 
 pub const MOST_EVENTS: u32 = 1000000;
@@ -24,8 +27,8 @@ pub fn no_counts() -> Counts
     ensures { λ r. ⌜ r ≡ noCounts ⌝ }
 {
     Counts {
-        boxes: [0u32; 116],
-        beacons: [0u32; 12],
+        boxes: [0u32; BOXES],
+        beacons: [0u32; BEACONS],
     }
 }
 
@@ -43,7 +46,7 @@ pub fn fresh() -> Interval
         counts: counts,
         samples: samples,
         readings: 0,
-        totals: [0u32; 8],
+        totals: [0u32; TOTALS],
     }
 }
 
@@ -68,15 +71,15 @@ fn counts_within(taken: u32, c: Counts) -> bool
 }
 
 // Used and replaced slots.
-fn slots_within(taken: u32, u: SlotUse) -> bool
-    ensures { λ r. ⌜ r ≡ slotsWithin taken u ⌝ }
+fn slots_within(slots: usize, taken: u32, u: SlotUse) -> bool
+    ensures { λ r. ⌜ r ≡ slotsWithin slots taken u ⌝ }
 {
     let most = taken as usize;
-    (u.used <= most) & (u.used <= settings::SLOTS as usize) & (u.replaced <= most)
+    (u.used <= most) & (u.used <= slots) & (u.replaced <= most)
 }
 
 // Readings and their totals.
-fn readings_within(readings: u32, totals: &[u32; 8]) -> bool
+fn readings_within(readings: u32, totals: &[u32; TOTALS]) -> bool
     ensures { λ r. ⌜ r ≡ readingsWithin readings (now (totals .entry)) ⌝ }
 {
     if MOST_READINGS < readings {
@@ -85,12 +88,12 @@ fn readings_within(readings: u32, totals: &[u32; 8]) -> bool
     all_at_most(totals, 65535 * readings)
 }
 
-// Whether an interval is within its limits.
-pub fn within(i: Interval) -> bool
-    ensures { λ r. ⌜ r ≡ intervalWithin i ⌝ }
+// Whether an interval is within its limits, with this many slots.
+pub fn within(i: Interval, slots: usize) -> bool
+    ensures { λ r. ⌜ r ≡ intervalWithin slots i ⌝ }
 {
     let counts = counts_within(i.taken, i.counts);
-    let slots = slots_within(i.taken, i.samples);
+    let samples = slots_within(slots, i.taken, i.samples);
     let readings = readings_within(i.readings, &i.totals);
-    counts & slots & readings
+    counts & samples & readings
 }

@@ -1,2 +1,3 @@
 -- What the programs' contracts cite.
+pub mod Start
 pub mod Record

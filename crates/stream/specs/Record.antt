@@ -40,24 +40,24 @@ IsOf k head n (Record kind start from rest) = (kind ≡ k) × (start + head ≡ 
 
 -- ---- an event's body: "t, high, low, flags FLG0 1, FLG1 2, error 4, valid stop 8"
 
-abbrev pub flagByte : List ℕ → ℕ
-flagByte body = getD body 6 0
+abbrev pub eventFlags : List ℕ → ℕ
+eventFlags body = getD body 6 0
 
-unfoldable pub eventIn : List ℕ → Event
-eventIn body = record {
+unfoldable pub eventOf : List ℕ → Event
+eventOf body = record {
   t = at16 body 0;
   high = at16 body 2;
   low = at16 body 4;
-  flg0 = isSet (flagByte body) 1;
-  flg1 = isSet (flagByte body) 2;
-  error = isSet (flagByte body) 4;
-  stop = isSet (flagByte body) 8;
+  flg0 = isSet (eventFlags body) 1;
+  flg1 = isSet (eventFlags body) 2;
+  error = isSet (eventFlags body) 4;
+  stop = isSet (eventFlags body) 8;
 }
 
 -- "a flag byte over 15 is refused by 2"; any other event is the call's
 unfoldable pub recordDone : State → (tables slots body : List ℕ) → EventDone
 recordDone s tables slots body =
-    cond (leb (flagByte body) 15) (eventDone s tables slots (eventIn body)) (record { answer = answer fieldRange s; slots = slots })
+    cond (leb (eventFlags body) 15) (eventDone s tables slots (eventOf body)) (record { answer = answer fieldRange s; slots = slots })
 
 -- ---- a reading's body: eight 16-bit counts
 

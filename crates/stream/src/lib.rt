@@ -1,2 +1,3 @@
-// The records that both programs read, and where a program stands after one.
+// What both programs begin with, the records that both read, and where a program stands after one.
 pub mod record;
+pub mod start;

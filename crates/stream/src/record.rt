@@ -5,7 +5,8 @@ ghost use Prim.Native.Nat.{_+_, _≤_, _<_};
 ghost use lib.ListN.{length, getD};
 ghost use Rattle.processor.specs.Reading.{readingDone};
 ghost use Rattle.buffered.specs.Input.{Held, waitingIn, inputBytes};
-ghost use Rattle.stream.specs.Record.{LongAs, FoundIn, IsOf, eventIn, recordDone, countsIn};
+ghost use Rattle.stream.specs.Record.{LongAs, FoundIn, IsOf, eventOf, recordDone, countsIn};
+use boxes::TOTALS;
 use buffered::input::Input;
 use processor::Answer;
 use sort::event::Event;
@@ -139,7 +140,7 @@ const LAST_FLAGS: u8 = 15;
 
 fn event_in(body: &[u8]) -> Event
     requires { ⌜ length (now body) ≡ 7 ⌝ }
-    ensures { λ r. ⌜ r ≡ eventIn (now (body .entry)) ⌝ }
+    ensures { λ r. ⌜ r ≡ eventOf (now (body .entry)) ⌝ }
 {
     let flags = body[6];
     Event {
@@ -168,7 +169,7 @@ pub fn event(state: State, tables: &[u8], slots: &mut [u32], body: &[u8]) -> Ans
     processor::event::event(state, tables, slots, event_in(body))
 }
 
-fn counts_in(body: &[u8]) -> [u16; 8]
+fn counts_in(body: &[u8]) -> [u16; TOTALS]
     requires { ⌜ length (now body) ≡ 16 ⌝ }
     ensures { λ r. ⌜ r ≡ countsIn (now (body .entry)) ⌝ }
 {

@@ -1,98 +1,69 @@
 -- Laws of one call from any world, reached or not: limits are kept, a refused call leaves all, and settings and tables change in a close
 -- alone. Assumes nothing.
-use mathlib.Core.Path.{_≡_, refl, sym}
-use mathlib.Core.Bool.{Bool, true, false, _||_, false≢true}
-use mathlib.Core.List.{List}
+use mathlib.Core.Path.{_≡_, ap, _∙_}
+use mathlib.Core.Bool.{true, false}
+use mathlib.Core.List.{List, []}
 use Prim.Native.Nat.{ℕ}
-use lib.Dec.{eqb, leb}
+use lib.Dec.{leb}
 use lib.ListN.{length}
 use Rattle.causes.specs.Causes.{wrongLine}
-use Rattle.wire.proofs.Lists.{decide}
-use Rattle.orders.specs.Orders.{mostCommands}
+use Rattle.command_list.specs.CommandList.{mostCommands}
 use Rattle.state.specs.Limits.{withinLimits}
-use Rattle.processor.specs.Event.{eventNumber, eventDone}
-use Rattle.processor.specs.Reading.{readingNumber, readingDone}
-use Rattle.accepted_line.specs.Told.{stateTold}
-use Rattle.processor.specs.Line.{lineNumber, lineDone}
-use Rattle.processor.specs.Package.{isStaged, packageCallNumber, packageDone}
+use Rattle.processor.specs.Line.{lineDone}
+use Rattle.processor.specs.Package.{packageDone}
 use Rattle.processor.specs.Close.{closeDone}
 use Rattle.processor.specs.Listing.{listingDone}
-use Rattle.processor.proofs.LimitsKept.{event-kept, reading-kept, line-kept, package-kept, close-kept}
-use Rattle.tally.specs.Calls.{Lent, found, Call, event, reading, line, load, close, listing, numberOf}
-use Rattle.tally.specs.Calls.{World, lineIn, loadIn, closeIn, listingIn, next, reply, Typed}
-use Rattle.tally.proofs.Steps.{kept-same}
+use Rattle.tally.specs.World.{World, Lending, lend}
+use Rattle.tally.specs.Steps.{Done}
+use Rattle.tally.specs.Calls.{line, loadPackage, listing, Answered, processed, processedBy, closeProcessed, asks, singleProcessed, SingleCall, processorStep}
+use Rattle.tally.proofs.Lending.{back-same, back-tables}
+use Rattle.tally.proofs.Law.{refused-given}
+use Rattle.tally.proofs.Requests.{single-law}
 
--- a reading has eight 16-bit counts and a state 32 places for commands, as their types say
-pub limits-kept : (w : World) (c : Call) → Typed c → length (w .state .orders .waiting) ≡ mostCommands → withinLimits (w .state) ≡ true
-    → withinLimits (next w c .state) ≡ true
-unfolding next
-limits-kept w (event t s e) y l h = event-kept (w .state) h (found t (w .tables)) (found s (w .slots)) e
-limits-kept w (reading counts) y l h = reading-kept (w .state) h counts (y .1)
-limits-kept w (line bytes g m echo) y l h = line-kept (w .state) h bytes (found g (w .staging)) (found m (w .marks)) echo l
-limits-kept w (load bytes g m echo) y l h = package-kept (w .state) h bytes (found g (w .staging)) (found m (w .marks)) echo
-limits-kept w (close time t g s out) y l h =
-    close-kept (w .state) h time (found t (w .tables)) (found g (w .staging)) (found s (w .slots)) out
-limits-kept w (listing i time t out) y l h = h
+module _ (w : World) (c : SingleCall) where
+  -- a state has 32 places for commands, as its type says
+  pub limits-kept : length (w .state .commands .waiting) ≡ mostCommands → withinLimits (w .state) ≡ true
+      → withinLimits (processorStep w c .next .state) ≡ true
+  unfolding processedBy
+  limits-kept l h = single-law (c .request) .limits (lend (c .lent) w) l h
 
--- ---- what is refused, 10 apart, leaves the state and the processor's own buffers
+  -- what is refused leaves the state and the processor's own buffers
+  pub refused-keeps : processorStep w c .carried ≡ false → processorStep w c .next ≡ w
+  unfolding processedBy
+  refused-keeps h =
+      ap (λ (d : Done World Answered). d .next) (refused-given (c .lent) w _ (single-law (c .request) .refused (lend (c .lent) w) h))
 
-not-zero : (a b : Bool) → (a || b) ≡ false → a ≡ false
-not-zero false b h = refl
-not-zero true b h = h
-
-refused : (n : ℕ) → isStaged n ≡ false → eqb n 0 ≡ false
-refused n h = not-zero (eqb n 0) (eqb n 10) h
-
-pub refused-keeps : (w : World) (c : Call) → isStaged (numberOf (reply w c)) ≡ false → next w c ≡ w
-unfolding next reply eventDone readingDone lineDone packageDone closeDone
-refused-keeps w (event t s e) h = rw (refused _ h, kept-same s (w .slots))
-refused-keeps w (reading counts) h = rw (refused _ h)
-refused-keeps w (line bytes g m echo) h = rw (refused _ h)
-refused-keeps w (load bytes g m echo) h = rw (h, kept-same g (w .staging), kept-same m (w .marks))
-refused-keeps w (close time t g s out) h = rw (refused _ h, kept-same t (w .tables), kept-same s (w .slots))
-refused-keeps w (listing i time t out) h = refl
-
--- it leaves the output and the echo too: only 5, 6, 7, 15 and 16 of a line have an echo of their own
-abbrev pub LentLeft : World → Call → Type 0
-LentLeft w (event t s e) = Unit {0}
-LentLeft w (reading counts) = Unit {0}
-LentLeft w (line bytes g m echo) = leb wrongLine (lineIn w bytes g m echo .answer .number) ≡ false → lineIn w bytes g m echo .echo ≡ echo
-LentLeft w (load bytes g m echo) = loadIn w bytes g m echo .echo ≡ echo
-LentLeft w (close time t g s out) = closeIn w time t g s out .out ≡ out
-LentLeft w (listing i time t out) = listingIn w i time t out .out ≡ out
-
-pub refused-leaves : (w : World) (c : Call) → isStaged (numberOf (reply w c)) ≡ false → LentLeft w c
-unfolding reply lineDone packageDone closeDone listingDone
-refused-leaves w (event t s e) h = tt
-refused-leaves w (reading counts) h = tt
-refused-leaves w (line bytes g m echo) h = λ k. rw (refused _ h, k)
-refused-leaves w (load bytes g m echo) h = rw h
-refused-leaves w (close time t g s out) h = rw (refused _ h)
-refused-leaves w (listing i time t out) h = rw (refused _ h)
-
--- ---- settings and tables change in a close alone
-
-abbrev pub isClose : Call → Bool
-isClose (event t s e) = false
-isClose (reading counts) = false
-isClose (line bytes g m echo) = false
-isClose (load bytes g m echo) = false
-isClose (close time t g s out) = true
-isClose (listing i time t out) = false
-
-pub between-closes : (w : World) (c : Call) → isClose c ≡ false
-    → (next w c .state .settings ≡ w .state .settings) × (next w c .tables ≡ w .tables)
-unfolding next eventDone readingDone lineDone packageDone stateTold
-between-closes w (event t s e) h =
-    (decide (eqb (eventNumber (w .state) (length (found t (w .tables))) (length (found s (w .slots))) e) 0) (λ q. rw q) (λ q. rw q), refl)
-between-closes w (reading counts) h = (decide (eqb (readingNumber (w .state)) 0) (λ q. rw q) (λ q. rw q), refl)
-between-closes w (line bytes g m echo) h = (decide (eqb (lineNumber (w .state) bytes (found g (w .staging)) (found m (w .marks)) (length echo)) 0) (λ q. rw q) (λ q. rw q), refl)
-between-closes w (load bytes g m echo) h =
-    (decide (isStaged (packageCallNumber (w .state) bytes (length (found g (w .staging))) (length (found m (w .marks))) (length echo))) (λ q. rw q) (λ q. rw q), refl)
-between-closes w (close time t g s out) h = absurd (false≢true (sym h))
-between-closes w (listing i time t out) h = (refl, refl)
+  -- settings and tables change only where an interval is ended
+  pub between-closes : processorStep w c .answer .facts .ended ≡ []
+      → (processorStep w c .next .state .settings ≡ w .state .settings) × (processorStep w c .next .buffers .tables ≡ w .buffers .tables)
+  unfolding processedBy
+  between-closes h =
+      let b = single-law (c .request) .between (lend (c .lent) w) h in
+      (b .0, back-tables (c .lent .tables) (w .buffers .tables) _ (b .1))
 
 -- "Listing changes nothing aboard", whatever it is answered
-pub listing-keeps : (w : World) (i time : ℕ) (t : Lent) (out : List ℕ) → next w (listing i time t out) ≡ w
-unfolding next
-listing-keeps w i time t out = refl
+pub listing-keeps : (w : World) (l : Lending) (i time : ℕ) (out : List ℕ)
+    → processorStep w (record { lent = l; request = asks (listing i time out) }) .next ≡ w
+unfolding processedBy singleProcessed processed
+listing-keeps w l i time out = back-same l w
+
+-- ---- what is refused, 10 apart, leaves the echo and the output too: only 5, 6, 7, 15 and 16 of a line have an echo of their own
+
+module _ (w : World) where
+  pub line-leaves : (bytes echo : List ℕ) → processed w (line bytes echo) .carried ≡ false
+      → leb wrongLine (processed w (line bytes echo) .reply .number) ≡ false → processed w (line bytes echo) .reply .echo ≡ echo
+  unfolding processed lineDone
+  line-leaves bytes echo h k = rw (h, k)
+
+  pub package-leaves : (bytes echo : List ℕ) → processed w (loadPackage bytes echo) .carried ≡ false → processed w (loadPackage bytes echo) .reply .echo ≡ echo
+  unfolding processed packageDone
+  package-leaves bytes echo h = rw h
+
+  pub close-leaves : (time : ℕ) (out : List ℕ) → closeProcessed w time out .carried ≡ false → closeProcessed w time out .reply .out ≡ out
+  unfolding closeProcessed closeDone
+  close-leaves time out h = rw h
+
+  pub listing-leaves : (i time : ℕ) (out : List ℕ) → processed w (listing i time out) .carried ≡ false
+      → processed w (listing i time out) .reply .out ≡ out
+  unfolding processed listingDone
+  listing-leaves i time out h = rw h

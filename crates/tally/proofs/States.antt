@@ -1,88 +1,55 @@
 -- The state and the slots that the tally stands for, after each thing that a call does to it. Assumes nothing.
 use mathlib.Core.Path.{_≡_, refl, sym, ap, _∙_}
-use mathlib.Core.Bool.{Bool, true, false, _&&_, not, cond}
-use mathlib.Core.List.{List, [], _∷_, _++_, map, append-nil}
-use Prim.Native.Nat.{ℕ, _+_, _%_, _≤_, _<_}
+use mathlib.Core.Bool.{Bool, true, _&&_, not}
+use mathlib.Core.List.{List, [], _∷_, _++_, map}
+use Prim.Native.Nat.{ℕ, _+_, _%_, _<_}
 use native.Mathlib.Omega.{arith}
 use lib.ListN.{length, getD, length-append}
 use Rattle.wire.specs.Bytes.{total, zeros}
-use Rattle.wire.specs.Lists.{joinIf, keep}
-use Rattle.wire.specs.Pieces.{table, padded}
-use Rattle.wire.proofs.Lists.{keep-append, keep-one}
+use Rattle.wire.specs.Lists.{keep}
+use Rattle.wire.specs.Pieces.{table}
 use Rattle.wire.proofs.Pieces.{table-at, same-table, table-zeros}
+use Rattle.boxes.specs.Boxes.{boxCount, beaconCount, totalCount}
 use Rattle.settings.specs.declared.Settings.{Settings}
-use Rattle.settings.specs.Settings.{slotCount}
 use Rattle.sort.specs.declared.event.Event.{Event}
-use Rattle.samples.specs.declared.slots.SlotUse.{SlotUse}
-use Rattle.samples.specs.Samples.{Place, none, placeOf, slotsAfter, useAfter, slotsOf, useOf}
-use Rattle.samples.proofs.SampleLaws.{place-agrees, replaced-few, sampled-few}
-use Rattle.command.specs.declared.command.Command.{Command}
-use Rattle.command.specs.declared.command.Command.the-variants.{Load}
+use Rattle.samples.specs.Selection.{sorted, slotsTaken}
+use Rattle.samples.proofs.SelectionLaws.{one-more-slots, one-more-use, no-slots, no-use}
 use Rattle.command.specs.declared.command.Line.{Line}
-use Rattle.command.specs.declared.command.Line.the-variants.{Empty, Wrong, Waits, LoadZero, LoadAt, Ask, Commit}
-use Rattle.orders.specs.Orders.{freshOrders, ordersWith, pushed}
-use Rattle.orders.specs.Run.{settingsAfterAll, addressesAfterAll}
-use Rattle.orders.proofs.OrderLaws.{room, waiting-with, pushed-with}
+use Rattle.command.specs.declared.command.Line.the-variants.{Empty, Wrong, Change, LoadZero, LoadAt, Ask, Commit}
+use Rattle.command.specs.declared.traits.Leaves.{Leaves}
+use Rattle.command.specs.Asked.{traitsOf}
+use Rattle.command_list.specs.declared.CommandList.{CommandList}
+use Rattle.command_list.specs.CommandList.{freshCommandList, commandListWith, withAccepted, leftWaiting}
+use Rattle.command_list.specs.Run.{settingsAfterAll, addressesAfterAll}
+use Rattle.command_list.proofs.CommandListLaws.{room, waiting-with, accepted-with}
+use Rattle.state.specs.declared.State.{State}
 use Rattle.state.specs.Interval.{noCounts, freshInterval, withReading}
-use Rattle.state.specs.State.{withOrders}
-use Rattle.command.specs.Asked.{isCommand}
-use Rattle.processor.specs.Event.{placeFor, slotsTaken, intervalTaken}
-use Rattle.processor.specs.Reading.{addedTotals}
-use Rattle.accepted_line.specs.Told.{stateTold}
-use Rattle.processor.specs.Close.{stateClosed}
-use Rattle.tally.specs.Events.{sorted, inBox, inBeacon, countsBy, isEligible, eligiblesBy, priority, recordFor, slotsBy, useBy}
-use Rattle.tally.specs.Tally.{noneGathered, Tally, totalsBy, fullFor, heard, ended}
+use Rattle.state.specs.State.{withCommandList, withStaging}
+use Rattle.take_event.specs.Event.{intervalTaken}
+use Rattle.take_reading.specs.Reading.{addedTotals}
+use Rattle.take_line.specs.Line.{addressesAfterLine, stateAfterLine}
+use Rattle.end_interval.specs.End.{stateEnded}
+use Rattle.tally.specs.Events.{inBox, inBeacon, countsBy}
+use Rattle.tally.specs.Tally.{Tally, eventsOf, slotsFor, selected, totalsBy, totalsOf, countsOf, fullFor, eventJoined, read, lineTaken, ended, emptyInterval}
 use Rattle.tally.specs.View.{viewInterval, viewState}
 use Rattle.tally.proofs.CountLaws.{counts-snoc}
-use Rattle.tally.proofs.Invariant.{Inv, orders-most}
+use Rattle.tally.proofs.Invariant.{Sizes, Inv, limhi-most, commands-most}
 
 -- ---- one event more
 
-module _ (s : Settings) (tables : List ℕ) (es : List Event) (e : Event) (q : s .limhi ≤ slotCount) where
-  eligibles-snoc : eligiblesBy s tables (es ++ e ∷ []) ≡ eligiblesBy s tables es ++ joinIf (isEligible s tables e) e []
-  unfolding eligiblesBy
-  eligibles-snoc = rw (keep-append, keep-one)
+module _ {z : Sizes} (t : Tally) (v : Inv z t) (e : Event) where
+  pub event-slots : slotsTaken (slotsFor t) (selected t .samples) (t .settings) (selected t .slots) e (sorted (t .settings) (t .tables) e)
+      ≡ selected (eventJoined t e) .slots
+  event-slots = one-more-slots (slotsFor t) (t .settings) (t .tables) (limhi-most t v) (eventsOf t) e
 
-  -- what the slots and their use are after the event, by whether it is eligible
-  abbrev slotsIn : List Event → List ℕ
-  slotsIn = slotsOf (priority s tables) (recordFor s tables) slotCount (s .limhi)
-
-  abbrev useIn : List Event → SlotUse
-  useIn = useOf (priority s tables) (recordFor s tables) slotCount (s .limhi)
-
-  abbrev Went : Place → List Event → Type 0
-  Went p l =
-      (slotsAfter p (slotsBy s tables es) (useBy s tables es) (recordFor s tables e) ≡ slotsIn l)
-      × (useAfter p (useBy s tables es) ≡ useIn l)
-
-  went-by : (b : Bool)
-      → Went (cond b (placeOf slotCount (useBy s tables es) (s .limhi) (priority s tables e)) none)
-      (eligiblesBy s tables es ++ joinIf b e [])
-  unfolding slotsBy useBy
-  went-by true = place-agrees (priority s tables) (recordFor s tables) slotCount (s .limhi) q (eligiblesBy s tables es) e
-  went-by false = (
-    ap slotsIn (sym (append-nil (eligiblesBy s tables es))),
-    ap useIn (sym (append-nil (eligiblesBy s tables es))),
-  )
-
-  pub event-slots : slotsTaken (useBy s tables es) s (slotsBy s tables es) e (sorted s tables e) ≡ slotsBy s tables (es ++ e ∷ [])
-  unfolding slotsBy
-  event-slots = went-by (isEligible s tables e) .0 ∙ ap slotsIn (sym eligibles-snoc)
-
-  event-use : useAfter (placeFor (useBy s tables es) s (sorted s tables e)) (useBy s tables es) ≡ useBy s tables (es ++ e ∷ [])
-  unfolding useBy
-  event-use = went-by (isEligible s tables e) .1 ∙ ap useIn (sym eligibles-snoc)
-
-  pub event-interval : (rs : List (List ℕ))
-      → intervalTaken (viewInterval s tables (record { events = es; readings = rs })) s (sorted s tables e)
-      ≡ viewInterval s tables (record { events = es ++ e ∷ []; readings = rs })
+  pub event-interval : intervalTaken (slotsFor t) (viewInterval t) (t .settings) (sorted (t .settings) (t .tables) e) ≡ viewInterval (eventJoined t e)
   unfolding intervalTaken
-  event-interval rs = λ i. record {
-    taken = sym (length-append es (e ∷ [])) i;
-    counts = counts-snoc s tables es e i;
-    samples = event-use i;
-    readings = length rs;
-    totals = totalsBy rs;
+  event-interval = λ i. record {
+    taken = sym (length-append (eventsOf t) (e ∷ [])) i;
+    counts = counts-snoc (t .settings) (t .tables) (eventsOf t) e i;
+    samples = one-more-use (slotsFor t) (t .settings) (t .tables) (limhi-most t v) (eventsOf t) e i;
+    readings = length (t .interval .readings);
+    totals = totalsOf t;
   }
 
 -- ---- one reading more
@@ -94,87 +61,89 @@ total-snoc f (x ∷ xs) r = omega (arith, total-snoc f xs r)
 
 totals-snoc : (rs : List (List ℕ)) (counts : List ℕ) → addedTotals (totalsBy rs) counts ≡ totalsBy (rs ++ counts ∷ [])
 unfolding totalsBy
-totals-snoc rs counts = same-table 8 _ _ sums
+totals-snoc rs counts = same-table totalCount _ _ sums
   where
-    sums : (k : ℕ) → k < 8
-        → getD (table 8 (λ k. total (map (λ r. getD r k 0) rs))) k 0 + getD counts k 0 ≡ total (map (λ r. getD r k 0) (rs ++ counts ∷ []))
+    sums : (k : ℕ) → k < totalCount
+        → getD (table totalCount (λ k. total (map (λ r. getD r k 0) rs))) k 0 + getD counts k 0 ≡ total (map (λ r. getD r k 0) (rs ++ counts ∷ []))
     sums k h =
-        ap (λ (n : ℕ). n + getD counts k 0) (table-at (λ k. total (map (λ r. getD r k 0) rs)) 8 k h)
+        ap (λ (n : ℕ). n + getD counts k 0) (table-at (λ k. total (map (λ r. getD r k 0) rs)) totalCount k h)
         ∙ total-snoc (λ r. getD r k 0) rs counts
 
-pub reading-interval : (s : Settings) (tables : List ℕ) (es : List Event) (rs : List (List ℕ)) (counts : List ℕ)
-    → withReading (viewInterval s tables (record { events = es; readings = rs })) (addedTotals (totalsBy rs) counts)
-    ≡ viewInterval s tables (record { events = es; readings = rs ++ counts ∷ [] })
-reading-interval s tables es rs counts = λ i. record {
-  taken = length es;
-  counts = countsBy s tables es;
-  samples = useBy s tables es;
-  readings = sym (length-append rs (counts ∷ [])) i;
-  totals = totals-snoc rs counts i;
+pub reading-interval : (t : Tally) (counts : List ℕ)
+    → withReading (viewInterval t) (addedTotals (totalsOf t) counts) ≡ viewInterval (read t counts)
+reading-interval t counts = λ i. record {
+  taken = length (eventsOf t);
+  counts = countsOf t;
+  samples = selected t .samples;
+  readings = sym (length-append (t .interval .readings) (counts ∷ [])) i;
+  totals = totals-snoc (t .interval .readings) counts i;
 }
 
 -- ---- an accepted line
 
--- one more command that waits, where there is room
-waits-state : (t : Tally) → Inv t → (c : Command) → not (fullFor t) ≡ true
-    → withOrders (viewState t) (pushed (ordersWith (t .told .accepted) (t .told .waiting)) c)
-    ≡ withOrders (viewState t) (ordersWith (t .told .accepted + 1) (t .told .waiting ++ record { command = c } ∷ []))
-waits-state t v c h =
-    let w = orders-most t v in
-    let r = room (ordersWith (t .told .accepted) (t .told .waiting)) h in
-    ap (withOrders (viewState t)) (pushed-with (t .told .accepted) (t .told .waiting) c (omega (arith, w .waiters-most)))
+-- one more command accepted, with what its line leaves waiting, where there is room
+accepted-state : {z : Sizes} (t : Tally) → Inv z t → (x : Leaves) → not (fullFor t) ≡ true
+    → withAccepted (commandListWith (t .commands .accepted) (t .commands .waiting)) x ≡ commandListWith (t .commands .accepted + 1) (t .commands .waiting ++ leftWaiting x)
+accepted-state t v x h =
+    let w = commands-most t v in
+    let r = room (commandListWith (t .commands .accepted) (t .commands .waiting)) h in
+    accepted-with (t .commands .accepted) (t .commands .waiting) x (omega (arith, w .waiters-most))
 
-pub heard-state : (t : Tally) → Inv t → (l : Line) → not (isCommand l && fullFor t) ≡ true → stateTold (viewState t) l ≡ viewState (heard t l)
-unfolding stateTold
-heard-state t v Empty h = refl
-heard-state t v Wrong h = refl
-heard-state t v (Waits c) h = waits-state t v c h
-heard-state t v LoadZero h = refl
-heard-state t v (LoadAt a) h = refl
-heard-state t v Ask h = refl
-heard-state t v (Commit a y n) h = waits-state t v (Load a y) h
+-- the state with these commands, and the addresses that the line leaves
+abbrev put : Tally → Line → CommandList → State
+put t l o = withStaging (withCommandList (viewState t) o) (addressesAfterLine (t .addresses) l)
+
+pub line-state : {z : Sizes} (t : Tally) → Inv z t → (l : Line) → not (traitsOf l .command && fullFor t) ≡ true
+    → stateAfterLine (viewState t) l ≡ viewState (lineTaken t l)
+unfolding stateAfterLine
+line-state t v Empty h = refl
+line-state t v Wrong h = refl
+line-state t v (Change k n) h = ap (put t (Change k n)) (accepted-state t v (traitsOf (Change k n) .leaves) h)
+line-state t v LoadZero h = ap (put t LoadZero) (accepted-state t v (traitsOf LoadZero .leaves) h)
+line-state t v (LoadAt a) h = ap (put t (LoadAt a)) (accepted-state t v (traitsOf (LoadAt a) .leaves) h)
+line-state t v Ask h = ap (put t Ask) (accepted-state t v (traitsOf Ask .leaves) h)
+line-state t v (Commit a y n) h = ap (put t (Commit a y n)) (accepted-state t v (traitsOf (Commit a y n) .leaves) h)
 
 -- ---- an interval without events
 
 module _ (s : Settings) (tables : List ℕ) where
-  none-eligible : eligiblesBy s tables [] ≡ []
-  unfolding eligiblesBy keep
-  none-eligible = refl
-
   no-counts : noCounts ≡ countsBy s tables []
   unfolding countsBy inBox inBeacon keep
-  no-counts = λ i. record { boxes = sym (table-zeros 116) i; beacons = sym (table-zeros 12) i }
+  no-counts = λ i. record { boxes = sym (table-zeros boxCount) i; beacons = sym (table-zeros beaconCount) i }
 
-  pub no-slots : zeros slotCount ≡ slotsBy s tables []
-  unfolding slotsBy slotsOf padded
-  no-slots = rw (none-eligible, sampled-few (priority s tables) slotCount (s .limhi) [] (omega arith))
+no-totals : zeros totalCount ≡ totalsBy []
+unfolding totalsBy total table
+no-totals = refl
 
-  no-use : record { used = 0; replaced = 0 } ≡ useBy s tables []
-  unfolding useBy useOf
-  no-use = rw (none-eligible, replaced-few (priority s tables) slotCount (s .limhi) [] (omega arith))
+-- a tally whose interval has no events and no readings
+pub no-interval : (t : Tally) → t .interval ≡ emptyInterval → freshInterval ≡ viewInterval t
+no-interval t e = rw e (λ i. record {
+  taken = 0;
+  counts = no-counts (t .settings) (t .tables) i;
+  samples = no-use (slotsFor t) (t .settings) (t .tables) i;
+  readings = 0;
+  totals = no-totals i;
+})
 
-  no-totals : zeros 8 ≡ totalsBy []
-  unfolding totalsBy total table
-  no-totals = refl
+pub empty-slots : (t : Tally) → t .interval ≡ emptyInterval → zeros (slotsFor t) ≡ selected t .slots
+empty-slots t e = rw e (no-slots (slotsFor t) (t .settings) (t .tables))
 
-  pub no-interval : freshInterval ≡ viewInterval s tables noneGathered
-  no-interval = λ i. record { taken = 0; counts = no-counts i; samples = no-use i; readings = 0; totals = no-totals i }
-
-pub no-orders : freshOrders ≡ ordersWith 0 []
-no-orders = refl
+pub no-commands : freshCommandList ≡ commandListWith 0 []
+no-commands = refl
 
 -- ---- a close
 
-pub closed-state : (t : Tally) → stateClosed (viewState t) ≡ viewState (ended t)
-unfolding stateClosed
-closed-state t =
-    let w = waiting-with (t .told .accepted) (t .told .waiting) in
+pub ended-state : (t : Tally) → stateEnded (viewState t) ≡ viewState (ended t)
+unfolding stateEnded
+ended-state t =
+    let w = waiting-with (t .commands .accepted) (t .commands .waiting) in
     λ i. record {
       frame = frames i;
-      interval = no-interval (ended t .settings) (ended t .tables) i;
+      interval = no-interval (ended t) refl i;
       settings = settingsAfterAll (t .settings) (w i);
-      orders = no-orders i;
+      commands = no-commands i;
       staging = addressesAfterAll (t .addresses) (w i);
+      capacity = t .capacity;
     }
   where
     frames : (t .closes % 65536 + 1) % 65536 ≡ (t .closes + 1) % 65536

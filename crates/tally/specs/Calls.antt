@@ -1,185 +1,237 @@
--- Lists of calls to one processor, and what it answers (document 01, "The tally of demand 3"). `next` and `reply` are made of the calls'
--- own definitions, those that the contracts cite. Assumes nothing.
+-- Calls to one processor, what it makes of the world and what it answers (document 01, "The tally of demand 3"): one clause for each in
+-- `processed`, made of the calls' own definitions, those that the contracts cite. Assumes nothing.
 use mathlib.Core.Path.{_≡_}
-use mathlib.Core.Bool.{Bool, true, false, _&&_}
+use mathlib.Core.Bool.{Bool, cond}
 use mathlib.Core.List.{List, [], _∷_}
 use Prim.Native.Nat.{ℕ}
+use lib.Dec.{eqb}
 use lib.ListN.{length}
+use Rattle.causes.specs.Causes.{carriedOut}
 use Rattle.wire.specs.Bytes.{zeros}
 use Rattle.wire.specs.Lists.{EachBelow}
-use Rattle.settings.specs.Settings.{slotCount}
 use Rattle.sort.specs.declared.event.Event.{Event}
-use Rattle.counts.specs.declared.Counts.{Counts}
-use Rattle.state.specs.declared.State.{State}
-use Rattle.state.specs.State.{freshState}
+use Rattle.output.specs.declared.Summary.{Summary}
+use Rattle.output.specs.declared.Span.{Span}
+use Rattle.output.specs.Ended.{Ended, endedIn}
+use Rattle.output.specs.Output.{written}
+use Rattle.listing_packet.specs.Listing.{listingPacket}
 use Rattle.processor.specs.declared.Answer.{Answer}
 use Rattle.processor.specs.Event.{EventDone, eventDone}
 use Rattle.processor.specs.Reading.{readingDone}
-use Rattle.processor.specs.Line.{LineDone, lineDone}
-use Rattle.processor.specs.Package.{PackageDone, isStaged, packageDone}
-use Rattle.processor.specs.Close.{CloseDone, closeDone}
+use Rattle.take_line.specs.Line.{LineDone}
+use Rattle.processor.specs.Line.{lineDone}
+use Rattle.take_package.specs.Package.{isStaged}
+use Rattle.processor.specs.Package.{PackageDone, packageDone}
+use Rattle.end_interval.specs.End.{stateEnded, tablesEnded}
+use Rattle.processor.specs.Close.{closeSpan, CloseDone, closeDone}
 use Rattle.processor.specs.Listing.{ListingDone, listingDone}
+use Rattle.tally.specs.Steps.{Done}
+use Rattle.tally.specs.World.{World, withState, withSlots, Lending, ownsAll, lend, giveBack, othersLeft}
 
--- a buffer is lent as the processor's own, the one used all along, or as another of any length and content
-pub data Lent : Type 0 where
-  own : Lent
-  other : List ℕ → Lent
+-- "eight 16-bit counts": what the type of a reading's argument says
+pub record Counts8 : Type 0 where
+  pub counts : List ℕ
+  pub eight : length counts ≡ 8
+  pub below : EachBelow 65536 counts
 
--- what a call finds in it, where the own one holds `mine`
-abbrev pub found : Lent → (mine : List ℕ) → List ℕ
-found own mine = mine
-found (other x) mine = x
+-- what is asked, with its arguments; echo and output are buffers of each call
+pub data Request : Type 0 where
+  event : Event → Request
+  reading : Counts8 → Request
+  line : (bytes echo : List ℕ) → Request
+  loadPackage : (bytes echo : List ℕ) → Request
+  listing : (i time : ℕ) (out : List ℕ) → Request
 
--- what the own one holds after a call that left `after` in what it was lent
-abbrev pub kept : Lent → (mine after : List ℕ) → List ℕ
-kept own mine after = after
-kept (other x) mine after = mine
+-- with what is lent
+pub record Call (A : Type 0) : Type 0 where
+  pub lent : Lending
+  pub request : A
 
-abbrev pub isOwn : Lent → Bool
-isOwn own = true
-isOwn (other x) = false
+-- ---- answers: one record with a field for each thing that some call returns beside the state, so that nothing goes by cases on it
 
--- a call, with its arguments and what it lends; echo and output are buffers of each call
-pub data Call : Type 0 where
-  event : (tables slots : Lent) → Event → Call
-  reading : (counts : List ℕ) → Call
-  line : (bytes : List ℕ) (staging marks : Lent) (echo : List ℕ) → Call
-  load : (bytes : List ℕ) (staging marks : Lent) (echo : List ℕ) → Call
-  close : (time : ℕ) (tables staging slots : Lent) (out : List ℕ) → Call
-  listing : (i time : ℕ) (tables : Lent) (out : List ℕ) → Call
+-- "An answer is all that is returned beside the state", with echo and output
+pub record Reply : Type 0 where
+  pub number : ℕ
+  pub sum : ℕ
+  pub echo : List ℕ
+  -- of each interval that a close ended, and zeros of one that was refused
+  pub summaries : List Summary
+  pub out : List ℕ
 
--- what is returned beside the state: "An answer is all that is returned beside the state"
-pub data Reply : Type 0 where
-  answered : (number : ℕ) → Reply
-  lined : (number : ℕ) (echo : List ℕ) (sum : ℕ) → Reply
-  echoed : (number : ℕ) (echo : List ℕ) → Reply
-  closed : (number taken : ℕ) (counts : Counts) (filled : ℕ) (out : List ℕ) → Reply
-  listed : (number : ℕ) (out : List ℕ) → Reply
+-- the one place where all fields stand: a field that only one more call returns is zero or empty here
+abbrev pub replied : (number sum : ℕ) (echo : List ℕ) → List Summary → (out : List ℕ) → Reply
+replied n sum echo summaries out = record { number = n; sum = sum; echo = echo; summaries = summaries; out = out }
 
-abbrev pub numberOf : Reply → ℕ
-numberOf (answered n) = n
-numberOf (lined n echo sum) = n
-numberOf (echoed n echo) = n
-numberOf (closed n taken counts filled out) = n
-numberOf (listed n out) = n
+abbrev pub answered : (number : ℕ) → Reply
+answered n = replied n 0 [] [] []
 
--- the state with the processor's own buffers
-pub record World : Type 0 where
-  pub state : State
+abbrev pub echoed : (number sum : ℕ) (echo : List ℕ) → Reply
+echoed n sum echo = replied n sum echo [] []
+
+abbrev pub listed : (number : ℕ) (out : List ℕ) → Reply
+listed n out = replied n 0 [] [] out
+
+abbrev pub closed : (number : ℕ) → List Summary → (out : List ℕ) → Reply
+closed n summaries out = replied n 0 [] summaries out
+
+-- ---- what packets are written from
+
+-- an interval that was ended, and the sample packets that its close wrote
+pub record Sent : Type 0 where
+  pub ended : Ended
+  pub span : Span
+
+abbrev pub closedWith : Sent → Reply
+closedWith e = closed carriedOut (e .ended .summary ∷ []) (written (e .ended) (e .span))
+
+-- packet i of the tables' listing
+pub record Listing : Type 0 where
+  pub frame : ℕ
+  pub time : ℕ
+  pub i : ℕ
   pub tables : List ℕ
-  pub staging : List ℕ
-  pub marks : List ℕ
-  pub slots : List ℕ
 
--- a fresh processor: "counts and slots 0"; tables, staging and marks hold whatever they hold
-abbrev pub freshWorld : (tables staging marks : List ℕ) → World
-freshWorld tables staging marks =
-    record { state = freshState; tables = tables; staging = staging; marks = marks; slots = zeros slotCount }
+abbrev pub writtenListing : Listing → List ℕ
+writtenListing l = listingPacket (l .frame) (l .time) (l .i) (l .tables)
 
--- ---- one call: what it makes of the state and of what it is lent
+-- ---- what claims must know of a call beside its answer: nothing, for most
 
-abbrev pub eventIn : World → (tables slots : Lent) → Event → EventDone
-eventIn w t s e = eventDone (w .state) (found t (w .tables)) (found s (w .slots)) e
+pub record Facts : Type 0 where
+  -- how many events it takes
+  pub takes : ℕ
+  -- the intervals that it ends
+  pub ended : List Sent
+  -- the listings that it writes
+  pub listings : List Listing
 
-abbrev pub readingIn : World → (counts : List ℕ) → Answer
-readingIn w counts = readingDone (w .state) counts
+abbrev pub nothing : Facts
+nothing = record { takes = 0; ended = []; listings = [] }
 
-abbrev pub lineIn : World → (bytes : List ℕ) (staging marks : Lent) (echo : List ℕ) → LineDone
-lineIn w bytes g m echo = lineDone (w .state) bytes (found g (w .staging)) (found m (w .marks)) echo
+abbrev pub oneEvent : Facts
+oneEvent = record { takes = 1; ended = []; listings = [] }
 
-abbrev pub loadIn : World → (bytes : List ℕ) (staging marks : Lent) (echo : List ℕ) → PackageDone
-loadIn w bytes g m echo = packageDone (w .state) bytes (found g (w .staging)) (found m (w .marks)) echo
+abbrev pub oneEnded : Sent → Facts
+oneEnded e = record { takes = 0; ended = e ∷ []; listings = [] }
 
-abbrev pub closeIn : World → (time : ℕ) (tables staging slots : Lent) (out : List ℕ) → CloseDone
-closeIn w time t g s out = closeDone (w .state) time (found t (w .tables)) (found g (w .staging)) (found s (w .slots)) out
+abbrev pub oneListing : Listing → Facts
+oneListing l = record { takes = 0; ended = []; listings = l ∷ [] }
 
-abbrev pub listingIn : World → (i time : ℕ) → Lent → (out : List ℕ) → ListingDone
-listingIn w i time t out = listingDone (w .state) i time (found t (w .tables)) out
+-- all that a list's answers are compared by: also what is left in buffers that are not the own
+pub record Answered : Type 0 where
+  pub reply : Reply
+  pub facts : Facts
+  pub others : List (List ℕ)
 
--- the world after a call; "Listing changes nothing aboard"
-unfoldable pub next : World → Call → World
-next w (event t s e) = record {
-  state = eventIn w t s e .answer .state;
-  tables = w .tables;
-  staging = w .staging;
-  marks = w .marks;
-  slots = kept s (w .slots) (eventIn w t s e .slots);
+-- ---- one call: what it makes of the world that it is lent
+
+pub record Made : Type 0 where
+  pub carried : Bool
+  pub next : World
+  pub reply : Reply
+  pub facts : Facts
+
+abbrev pub eventIn : World → Event → EventDone
+eventIn w e = eventDone (w .state) (w .buffers .tables) (w .buffers .slots) e
+
+abbrev pub readingIn : World → Counts8 → Answer
+readingIn w c = readingDone (w .state) (c .counts)
+
+abbrev pub lineIn : World → (bytes echo : List ℕ) → LineDone
+lineIn w bytes echo = lineDone (w .state) bytes (w .buffers .staging) (w .buffers .bitmap) echo
+
+abbrev pub packageIn : World → (bytes echo : List ℕ) → PackageDone
+packageIn w bytes echo = packageDone (w .state) bytes (w .buffers .staging) (w .buffers .bitmap) echo
+
+abbrev pub closeIn : World → (time : ℕ) (out : List ℕ) → CloseDone
+closeIn w time out = closeDone (w .state) time (w .buffers .tables) (w .buffers .staging) (w .buffers .slots) out
+
+abbrev pub listingIn : World → (i time : ℕ) (out : List ℕ) → ListingDone
+listingIn w i time out = listingDone (w .state) i time (w .buffers .tables) out
+
+-- the interval that the world holds, as a close at this time hands it to the packets
+abbrev pub sentIn : World → (time : ℕ) → Sent
+sentIn w time = record { ended = endedIn (w .state) time (w .buffers .tables) (w .buffers .slots); span = closeSpan (w .state .capacity) }
+
+abbrev pub listingOf : World → (i time : ℕ) → Listing
+listingOf w i time = record { frame = w .state .frame; time = time; i = i; tables = w .buffers .tables }
+
+-- by the number that it answers: whether it is carried out, what it makes of the world, what it answers, and what is known of it then
+abbrev pub made : (carried : Bool) → World → Reply → Facts → Made
+made b w r f = record { carried = b; next = w; reply = r; facts = cond b f nothing }
+
+abbrev pub isZero : (number : ℕ) → Bool
+isZero n = eqb n carriedOut
+
+-- "A call that is carried out answers 0", and a package answered 10 is placed; "Listing changes nothing aboard"
+unfoldable pub processed : World → Request → Made
+processed w (event e) =
+    let d = eventIn w e in
+    made (isZero (d .answer .number)) (withSlots w (d .answer .state) (d .slots)) (answered (d .answer .number)) oneEvent
+processed w (reading c) = let d = readingIn w c in made (isZero (d .number)) (withState w (d .state)) (answered (d .number)) nothing
+processed w (line bytes echo) =
+    let d = lineIn w bytes echo in
+    made (isZero (d .answer .number)) (withState w (d .answer .state)) (echoed (d .answer .number) (d .answer .sum) (d .echo)) nothing
+processed w (loadPackage bytes echo) =
+    let d = packageIn w bytes echo in
+    made (isStaged (d .answer .number))
+    (record {
+      state = d .answer .state;
+      buffers = record { tables = w .buffers .tables; staging = d .staging; bitmap = d .bitmap; slots = w .buffers .slots };
+    })
+    (echoed (d .answer .number) 0 (d .echo)) nothing
+processed w (listing i time out) =
+    let d = listingIn w i time out in
+    made (isZero (d .number)) w (listed (d .number) (d .out)) (oneListing (listingOf w i time))
+
+-- ---- with what it is lent
+
+abbrev pub given : Lending → World → Made → Done World Answered
+given l w m = record {
+  carried = m .carried;
+  owned = ownsAll l;
+  next = giveBack l w (m .next);
+  answer = record { reply = m .reply; facts = m .facts; others = othersLeft l (m .next) };
 }
-next w (reading counts) = record {
-  state = readingIn w counts .state;
-  tables = w .tables;
-  staging = w .staging;
-  marks = w .marks;
-  slots = w .slots;
+
+-- whatever is asked, by what it makes of the world that it is lent
+unfoldable pub processedBy : {A : Type 0} → (World → A → Made) → World → Call A → Done World Answered
+processedBy processed w c = given (c .lent) w (processed (lend (c .lent) w) (c .request))
+
+-- what the end of an interval makes of the world: commands run, counts and slots are zero
+abbrev pub ends : World → World
+ends w = record {
+  state = stateEnded (w .state);
+  buffers = record {
+    tables = tablesEnded (w .state) (w .buffers .tables) (w .buffers .staging);
+    staging = w .buffers .staging;
+    bitmap = w .buffers .bitmap;
+    slots = zeros (length (w .buffers .slots));
+  };
 }
-next w (line bytes g m echo) = record {
-  state = lineIn w bytes g m echo .answer .state;
-  tables = w .tables;
-  staging = w .staging;
-  marks = w .marks;
-  slots = w .slots;
-}
-next w (load bytes g m echo) = record {
-  state = loadIn w bytes g m echo .answer .state;
-  tables = w .tables;
-  staging = kept g (w .staging) (loadIn w bytes g m echo .staging);
-  marks = kept m (w .marks) (loadIn w bytes g m echo .marks);
-  slots = w .slots;
-}
-next w (close time t g s out) = record {
-  state = closeIn w time t g s out .answer .state;
-  tables = kept t (w .tables) (closeIn w time t g s out .tables);
-  staging = w .staging;
-  marks = w .marks;
-  slots = kept s (w .slots) (closeIn w time t g s out .slots);
-}
-next w (listing i time t out) = w
 
--- what the call answers
-abbrev pub closeReply : CloseDone → Reply
-closeReply d = closed (d .answer .number) (d .answer .taken) (d .answer .counts) (d .answer .filled) (d .out)
+-- ---- a close: a single telescope's call, and no request of one that is half of a pair
 
-unfoldable pub reply : World → Call → Reply
-reply w (event t s e) = answered (eventIn w t s e .answer .number)
-reply w (reading counts) = answered (readingIn w counts .number)
-reply w (line bytes g m echo) =
-    lined (lineIn w bytes g m echo .answer .number) (lineIn w bytes g m echo .echo) (lineIn w bytes g m echo .answer .sum)
-reply w (load bytes g m echo) = echoed (loadIn w bytes g m echo .answer .number) (loadIn w bytes g m echo .echo)
-reply w (close time t g s out) = closeReply (closeIn w time t g s out)
-reply w (listing i time t out) = listed (listingIn w i time t out .number) (listingIn w i time t out .out)
+unfoldable pub closeProcessed : World → (time : ℕ) (out : List ℕ) → Made
+closeProcessed w time out =
+    let d = closeIn w time out in
+    made (isZero (d .answer .number))
+    (record {
+      state = d .answer .state;
+      buffers = record { tables = d .tables; staging = w .buffers .staging; bitmap = w .buffers .bitmap; slots = d .slots };
+    })
+    (closed (d .answer .number) (d .answer .summary ∷ []) (d .out))
+    (oneEnded (sentIn w time))
 
--- ---- lists of calls
+pub data SingleRequest : Type 0 where
+  asks : Request → SingleRequest
+  close : (time : ℕ) (out : List ℕ) → SingleRequest
 
-unfoldable pub replies : World → List Call → List Reply
-replies w [] = []
-replies w (c ∷ cs) = reply w c ∷ replies (next w c) cs
+unfoldable pub singleProcessed : World → SingleRequest → Made
+singleProcessed w (asks a) = processed w a
+singleProcessed w (close time out) = closeProcessed w time out
 
-unfoldable pub after : World → List Call → World
-after w [] = w
-after w (c ∷ cs) = after (next w c) cs
+abbrev pub SingleCall : Type 0
+SingleCall = Call SingleRequest
 
--- whether a call lends only the processor's own tables, staging, marks and slots
-abbrev pub owns : Call → Bool
-owns (event t s e) = isOwn t && isOwn s
-owns (reading counts) = true
-owns (line bytes g m echo) = isOwn g && isOwn m
-owns (load bytes g m echo) = isOwn g && isOwn m
-owns (close time t g s out) = isOwn t && (isOwn g && isOwn s)
-owns (listing i time t out) = isOwn t
-
--- what the types of a call's arguments say: a reading has eight 16-bit counts
-abbrev pub Typed : Call → Type 0
-Typed (event t s e) = Unit {0}
-Typed (reading counts) = (length counts ≡ 8) × EachBelow 65536 counts
-Typed (line bytes g m echo) = Unit {0}
-Typed (load bytes g m echo) = Unit {0}
-Typed (close time t g s out) = Unit {0}
-Typed (listing i time t out) = Unit {0}
-
--- a lawful list: no call that is answered 0 or 10 lends another buffer than the processor's own; refused calls may lend anything
-abbrev pub LawfulCall : World → Call → Type 0
-LawfulCall w c = isStaged (numberOf (reply w c)) ≡ true → owns c ≡ true
-
-abbrev pub Lawful : World → List Call → Type 0
-Lawful w [] = Unit {0}
-Lawful w (c ∷ cs) = Typed c × (LawfulCall w c × Lawful (next w c) cs)
+abbrev pub processorStep : World → SingleCall → Done World Answered
+processorStep = processedBy singleProcessed

@@ -1,39 +1,28 @@
 -- Demand 3: one claim about every list of calls to a fresh processor (document 01, "The tally of demand 3"). Assumes nothing.
 use mathlib.Core.Path.{_≡_}
 use mathlib.Core.Logic.{_≢_}
-use mathlib.Core.Bool.{true, false}
+use mathlib.Core.Bool.{true}
 use mathlib.Core.List.{List, [], _∷_, map}
-use Prim.Native.Nat.{ℕ, zero, suc, _+_, _-_, _*_, _<_, min}
-use lib.Dec.{eqb}
+use Prim.Native.Nat.{ℕ, _+_, _-_, _*_, _<_, min}
 use lib.ListN.{length, getD, take, drop}
-use Rattle.causes.specs.Causes.{carriedOut}
-use Rattle.wire.specs.Bits.{bitOf}
 use Rattle.wire.specs.Bytes.{words, total}
-use Rattle.settings.specs.Settings.{slotCount}
-use Rattle.sort.specs.declared.event.Event.{Event}
+use Rattle.wire.specs.Lists.{All}
+use Rattle.capacity.specs.declared.Capacity.{Capacity}
+use Rattle.tables.specs.Tables.{tableBytes}
 use Rattle.counts.specs.declared.Counts.{Counts}
-use Rattle.wire.specs.Pieces.{padded}
 use Rattle.samples.specs.Samples.{filled}
-use Rattle.load.specs.Marks.{isBad}
-use Rattle.packet.specs.Packet.{packetBytes}
+use Rattle.samples.specs.Selection.{OfDifferentEvents}
+use Rattle.load.specs.Bitmap.{isBad}
+use Rattle.listing_packet.specs.Listing.{listingPackets}
 use Rattle.state.specs.Limits.{withinLimits}
-use Rattle.output.specs.Output.{samplePackets}
-use Rattle.tally.specs.Calls.{Lent, own, other, Call, event, reading, line, load, close, listing, Reply, answered, lined}
-use Rattle.tally.specs.Calls.{echoed, closed, listed, numberOf, World, freshWorld, eventIn, loadIn, closeIn, next, reply, replies, after, Lawful}
-use Rattle.tally.specs.Events.{isEligible, recordFor}
-use Rattle.tally.specs.Tally.{Wrote, unwritten, byRight, isBadly, Tally, freshTally, eventsOf, countsOf, eligibles, ownSlots}
-use Rattle.tally.specs.Tally.{loadWaitsFor, tnext, treplies, tafter}
+use Rattle.output.specs.declared.Summary.{Summary}
+use Rattle.output.specs.Output.{written, packetAt, samplePlace}
+use Rattle.tally.specs.Steps.{Done, replies, after, Lawful, Followed}
+use Rattle.tally.specs.World.{World, freshWorld}
+use Rattle.tally.specs.Calls.{SingleCall, Reply, Sent, Listing, writtenListing, Answered, processorStep}
+use Rattle.tally.specs.Tally.{Wrote, unwritten, byRight, isWrong, Tally, freshTally, eventsOf, slotsFor, selected}
+use Rattle.tally.specs.Tally.{loadWaitsFor, sentFor, listingFor, tallyStep}
 use Rattle.tally.specs.View.{view}
-
--- every element has the property
-abbrev pub All : {A : Type 0} → (A → Type 0) → List A → Type 0
-All P [] = Unit {0}
-All P (x ∷ xs) = P x × All P xs
-
--- no two elements are equal
-abbrev pub Distinct : {A : Type 0} → List A → Type 0
-Distinct [] = Unit {0}
-Distinct (x ∷ xs) = All (λ y. x ≢ y) xs × Distinct xs
 
 -- ---- the balances
 
@@ -54,26 +43,14 @@ pub record Balanced (taken : ℕ) (c : Counts) : Type 0 where
 
 -- ---- the samples
 
--- the event at a place of the list; past its end, which no place below is, an event of zeros
-abbrev pub noEvent : Event
-noEvent = record { t = 0; high = 0; low = 0; flg0 = false; flg1 = false; error = false; stop = false }
-
-abbrev pub eventAt : List Event → ℕ → Event
-eventAt es i = getD es i noEvent
-
--- the slots are the records of that many different eligible events: at distinct places of the interval's list
-pub record Samples (t : Tally) (slots : List ℕ) : Type 0 where
-  pub places : List ℕ
-  pub places-differ : Distinct places
-  pub places-below : All (λ i. i < length (eventsOf t)) places
-  pub places-eligible : All (λ i. isEligible (t .settings) (t .tables) (eventAt (eventsOf t) i) ≡ true) places
-  pub places-many : length places ≡ min slotCount (length (eligibles t))
-  pub slots-are : slots ≡ padded slotCount (map (λ i. recordFor (t .settings) (t .tables) (eventAt (eventsOf t) i)) places)
+-- the slots are the records of different eligible events of the interval, as many as the sample rule fills
+abbrev pub Samples : Tally → (slots : List ℕ) → Type 0
+Samples t slots = OfDifferentEvents (slotsFor t) (t .settings) (t .tables) (eventsOf t) (selected t .filled) slots
 
 -- ---- the staged bytes
 
-abbrev pub StagedKnown : (marks : List ℕ) (wrote : ℕ → Wrote) (reach : ℕ) → Type 0
-StagedKnown marks wrote reach = (i : ℕ) → i < reach → (wrote i ≢ unwritten) × (isBad marks i ≡ isBadly (wrote i))
+abbrev pub StagedKnown : (bitmap : List ℕ) (wrote : ℕ → Wrote) (reach : ℕ) → Type 0
+StagedKnown bitmap wrote reach = (i : ℕ) → i < reach → (wrote i ≢ unwritten) × (isBad bitmap i ≡ isWrong (wrote i))
 
 abbrev pub AllRight : (wrote : ℕ → Wrote) (reach : ℕ) → Type 0
 AllRight wrote reach = (i : ℕ) → i < reach → wrote i ≡ byRight
@@ -85,120 +62,81 @@ pub record Moment (t : Tally) (w : World) : Type 0 where
   pub same : w ≡ view t
   pub limits : withinLimits (w .state) ≡ true
   pub balanced : Balanced (w .state .interval .taken) (w .state .interval .counts)
-  -- as many slots are filled as there are eligible events, up to 704
-  pub filled-are : filled (w .slots) ≡ min slotCount (length (eligibles t))
-  pub samples : Samples t (w .slots)
-  -- below the reach, every byte was written by a package, and the own marks tell those that are bad
-  pub staged-known : StagedKnown (w .marks) (t .wrote) (w .state .staging .reach)
+  -- as many slots are filled as there are eligible events, up to their number
+  pub filled-are : filled (w .buffers .slots) ≡ min (slotsFor t) (length (selected t .eligibles))
+  pub samples : Samples t (w .buffers .slots)
+  -- below the reach, every byte was written by a package, and the own bitmap tells those that are bad
+  pub staged-known : StagedKnown (w .buffers .bitmap) (t .wrote) (w .state .staging .reach)
   -- while a commit waits, every byte below the reach was last written by a package with a right sum: that is what a close loads
   pub commit-right : loadWaitsFor t ≡ true → AllRight (t .wrote) (t .addresses .reach)
 
-abbrev pub Moments : Tally → World → List Call → Type 0
-Moments t w [] = Moment t w
-Moments t w (c ∷ cs) = Moment t w × Moments (tnext t c) (next w c) cs
-
--- ---- the answers
-
--- a close that is carried out hands out counts that balance, as the zeros of a refused one do
-abbrev pub ClosedBalanced : Reply → Type 0
-ClosedBalanced (answered n) = Unit {0}
-ClosedBalanced (lined n echo sum) = Unit {0}
-ClosedBalanced (echoed n echo) = Unit {0}
-ClosedBalanced (closed n taken counts filled out) = Balanced taken counts
-ClosedBalanced (listed n out) = Unit {0}
+-- ---- of each call
 
 -- "A closed interval has the counts its close returned and the slots in its packets"
 
--- bytes 11-266 of sample packet p, which stands behind the rate packet and p others
-abbrev pub sentIn : (out : List ℕ) (p : ℕ) → List ℕ
-sentIn out p = take 256 (drop (packetBytes * (p + 1) + 11) out)
+-- bytes 11-266 of the sample packet with the slots from 64i on
+abbrev pub recordsIn : (out : List ℕ) (i : ℕ) → List ℕ
+recordsIn out i = take 256 (drop 11 (packetAt out (samplePlace i)))
 
 -- what a close returned of the interval that it ended
-pub record ClosedInterval (t : Tally) (taken : ℕ) (counts : Counts) (filled : ℕ) (out : List ℕ) : Type 0 where
-  pub taken-are : taken ≡ length (eventsOf t)
-  pub counts-are : counts ≡ countsOf t
-  pub filled-are : filled ≡ min slotCount (length (eligibles t))
+pub record ClosedInterval (t : Tally) (r : Reply) (e : Sent) : Type 0 where
+  pub sent-is : e ≡ sentFor t (e .ended .time)
+  pub out-is : r .out ≡ written (e .ended) (e .span)
   -- "packet p (0 to 10) has slots 64p to 64p + 63"
-  pub slots-are : (p : ℕ) → p < samplePackets → sentIn out p ≡ words (take 64 (drop (64 * p) (ownSlots t)))
-  pub samples : Samples t (ownSlots t)
+  pub slots-are : (i : ℕ) → i < e .span .many → recordsIn (r .out) i ≡ words (take 64 (drop (64 * i) (selected t .slots)))
+  pub samples : Samples t (selected t .slots)
 
-abbrev pub ClosedRight : Tally → Reply → Type 0
-ClosedRight t (answered n) = Unit {0}
-ClosedRight t (lined n echo sum) = Unit {0}
-ClosedRight t (echoed n echo) = Unit {0}
-ClosedRight t (closed zero taken counts filled out) = ClosedInterval t taken counts filled out
-ClosedRight t (closed (suc n) taken counts filled out) = Unit {0}
-ClosedRight t (listed n out) = Unit {0}
+-- what a listing returned of the tables
+pub record ListedPart (t : Tally) (r : Reply) (l : Listing) : Type 0 where
+  pub listing-is : l ≡ listingFor t (l .i) (l .time)
+  pub tables-are : length (t .tables) ≡ tableBytes
+  pub i-below : l .i < listingPackets
+  pub out-is : r .out ≡ writtenListing l
 
-abbrev pub Intervals : Tally → World → List Call → Type 0
-Intervals t w [] = Unit {0}
-Intervals t w (c ∷ cs) = ClosedRight t (reply w c) × Intervals (tnext t c) (next w c) cs
+abbrev pub SummaryBalanced : Summary → Type 0
+SummaryBalanced s = Balanced (s .taken) (s .counts)
 
--- event calls answered 0
-abbrev pub takenOne : Call → Reply → ℕ
-takenOne (event t s e) r = bitOf (eqb (numberOf r) carriedOut)
-takenOne (reading counts) r = 0
-takenOne (line bytes g m echo) r = 0
-takenOne (load bytes g m echo) r = 0
-takenOne (close time t g s out) r = 0
-takenOne (listing i time t out) r = 0
+-- the events that are returned out
+abbrev pub takenIn : List Summary → ℕ
+takenIn [] = 0
+takenIn (h ∷ hs) = h .taken + takenIn hs
 
-unfoldable pub takenCalls : List Call → List Reply → ℕ
-takenCalls [] rs = 0
-takenCalls (c ∷ cs) [] = 0
-takenCalls (c ∷ cs) (r ∷ rs) = takenOne c r + takenCalls cs rs
+abbrev pub summariesIn : List Sent → List Summary
+summariesIn [] = []
+summariesIn (e ∷ es) = e .ended .summary ∷ summariesIn es
 
--- what closes handed out
-abbrev pub takenIn : Reply → ℕ
-takenIn (answered n) = 0
-takenIn (lined n echo sum) = 0
-takenIn (echoed n echo) = 0
-takenIn (closed n taken counts filled out) = taken
-takenIn (listed n out) = 0
-
-unfoldable pub takenClosed : List Reply → ℕ
-takenClosed [] = 0
-takenClosed (r ∷ rs) = takenIn r + takenClosed rs
-
--- ---- other buffers
-
--- a buffer that is not the processor's own is left as it was lent
-abbrev pub OtherIs : Lent → (after : List ℕ) → Type 0
-OtherIs own after = Unit {0}
-OtherIs (other x) after = after ≡ x
-
-abbrev pub OthersKept : World → Call → Type 0
-OthersKept w (event t s e) = OtherIs s (eventIn w t s e .slots)
-OthersKept w (reading counts) = Unit {0}
-OthersKept w (line bytes g m echo) = Unit {0}
-OthersKept w (load bytes g m echo) = OtherIs g (loadIn w bytes g m echo .staging) × OtherIs m (loadIn w bytes g m echo .marks)
-OthersKept w (close time t g s out) = OtherIs t (closeIn w time t g s out .tables) × OtherIs s (closeIn w time t g s out .slots)
-OthersKept w (listing i time t out) = Unit {0}
-
-abbrev pub EachKept : World → List Call → Type 0
-EachKept w [] = Unit {0}
-EachKept w (c ∷ cs) = OthersKept w c × EachKept (next w c) cs
+pub record Right (t : Tally) (d : Done World Answered) : Type 0 where
+  -- a close that is carried out hands out counts that balance; all else hands out zeros
+  pub balanced : All SummaryBalanced (d .answer .reply .summaries)
+  -- what is returned out is of the intervals that it ended
+  pub summaries-are : d .carried ≡ true → d .answer .reply .summaries ≡ summariesIn (d .answer .facts .ended)
+  pub intervals : All (ClosedInterval t (d .answer .reply)) (d .answer .facts .ended)
+  pub listings : All (ListedPart t (d .answer .reply)) (d .answer .facts .listings)
+  -- nothing goes unsaid: what is carried out, ends no interval and writes no listing has no output
+  pub all-said : d .carried ≡ true → d .answer .facts .ended ≡ [] → d .answer .facts .listings ≡ []
+      → d .answer .reply .out ≡ []
+  -- the events that are taken are returned out or stay in the open interval
+  pub events : length (eventsOf t) + d .answer .facts .takes ≡ takenIn (d .answer .reply .summaries) + d .next .state .interval .taken
 
 -- ---- the claim
 
-pub record Demand3 (tables staging marks : List ℕ) (cs : List Call) : Type 0 where
-  -- every answer, with echo and output, is the tally's
-  pub answers : replies (freshWorld tables staging marks) cs ≡ treplies (freshTally tables staging marks) cs
-  -- the state and the buffers at the end are the tally's
-  pub ending : after (freshWorld tables staging marks) cs ≡ view (tafter (freshTally tables staging marks) cs)
-  -- at every moment on the way: limits, balances, samples
-  pub moments : Moments (freshTally tables staging marks) (freshWorld tables staging marks) cs
-  -- every closed interval has the tally's counts and slots
-  pub intervals : Intervals (freshTally tables staging marks) (freshWorld tables staging marks) cs
-  -- the balances of every closed interval
-  pub closes : All ClosedBalanced (replies (freshWorld tables staging marks) cs)
-  -- event calls answered 0 are those of the closes and of the open interval
-  pub events : takenCalls cs (replies (freshWorld tables staging marks) cs)
-      ≡ takenClosed (replies (freshWorld tables staging marks) cs) + after (freshWorld tables staging marks) cs .state .interval .taken
-  -- what is lent besides the own buffers is left as it was
-  pub others : EachKept (freshWorld tables staging marks) cs
+abbrev pub takes : Answered → ℕ
+takes r = r .facts .takes
 
--- for every initial tables, staging and marks, and every lawful list of calls
+abbrev pub returned : Answered → ℕ
+returned r = takenIn (r .reply .summaries)
+
+pub record Demand3 (c : Capacity) (tables staging bitmap : List ℕ) (cs : List SingleCall) : Type 0 where
+  -- every answer, with echo, output and what is lent besides the own buffers, is the tally's; so are the state and the buffers at the
+  -- end; at every moment limits, balances and samples; no refused call changes anything; every closed interval is right
+  pub followed : Followed processorStep tallyStep view Moment Right (freshTally c tables staging bitmap) (freshWorld c tables staging bitmap) cs
+  -- event calls answered 0 are those of the closes and of the open interval
+  pub events : total (map takes (replies processorStep (freshWorld c tables staging bitmap) cs))
+      ≡ total (map returned (replies processorStep (freshWorld c tables staging bitmap) cs))
+      + after processorStep (freshWorld c tables staging bitmap) cs .state .interval .taken
+
+-- for a fresh processor of every capacity, every initial tables, staging and bitmap, and every lawful list of calls
 abbrev pub demand3 : Type 0
 demand3 =
-    (tables staging marks : List ℕ) (cs : List Call) → Lawful (freshWorld tables staging marks) cs → Demand3 tables staging marks cs
+    (c : Capacity) (tables staging bitmap : List ℕ) (cs : List SingleCall) → Lawful processorStep (freshWorld c tables staging bitmap) cs
+    → Demand3 c tables staging bitmap cs

@@ -2,51 +2,56 @@
 -- the samples and the packets are worked out from them. Assumes nothing.
 use mathlib.Core.Bool.{Bool, true, false, _&&_, not, cond}
 use mathlib.Core.List.{List, [], _∷_, _++_, map}
-use Prim.Native.Nat.{ℕ, _+_, _%_, min}
+use Prim.Native.Nat.{ℕ, _+_, _%_}
 use lib.Dec.{eqb, leb, ltb}
 use lib.ListN.{length, getD}
 use Rattle.causes.specs.Causes as cause
 use Rattle.causes.specs.Checks.{Check, numberBy}
 use Rattle.wire.specs.Bytes.{total}
-use Rattle.wire.specs.Lists.{all}
 use Rattle.wire.specs.Pieces.{table, each}
+use Rattle.boxes.specs.Boxes.{totalCount}
+use Rattle.capacity.specs.declared.Capacity.{Capacity}
+use Rattle.capacity.specs.Capacity.{numbersOf}
 use Rattle.settings.specs.declared.Settings.{Settings}
-use Rattle.settings.specs.Settings.{slotCount, freshSettings}
-use Rattle.tables.specs.Tables.{tableBytes}
-use Rattle.sample_record.specs.Record.{recordGood}
+use Rattle.settings.specs.Settings.{freshSettings}
 use Rattle.sort.specs.declared.event.Event.{Event}
-use Rattle.sort.specs.Event.{inRange}
 use Rattle.counts.specs.declared.Counts.{Counts}
-use Rattle.packet.specs.Packet.{packetBytes}
-use Rattle.listing_packet.specs.Listing.{listingPackets, listingPacket}
+use Rattle.samples.specs.Selection.{Selection, selectionOf}
+use Rattle.packet.specs.TableSum.{tableSum}
 use Rattle.load.specs.declared.staging.Addresses.{Addresses}
-use Rattle.load.specs.Marks.{marksBytes, marksAfter, noneBad, stagedSum}
-use Rattle.load.specs.Staging.{stagingBytes, payloadBytes, receivedSum, computedSum, packageChecks, stagingAfter, addressesAfter}
-use Rattle.load.specs.Staging.{freshAddresses}
-use Rattle.command.specs.declared.command.Command.the-variants.{Load}
+use Rattle.load.specs.Bitmap.{bitmapAfter, noneBad, stagedSum}
+use Rattle.load.specs.Staging.{payloadBytes, receivedSum, computedSum, stagingAfter, addressesAfter, freshAddresses}
+use Rattle.echo.specs.Echo.{refusedEcho}
 use Rattle.command.specs.declared.command.Line.{Line}
-use Rattle.command.specs.declared.command.Line.the-variants.{Empty, Wrong, Waits, LoadZero, LoadAt, Ask, Commit}
-use Rattle.echo.specs.Echo.{echoBytes, refusedEcho}
-use Rattle.command.specs.Grammar.{bytesOk, lineOf}
-use Rattle.orders.specs.declared.Waiting.{Waiting}
-use Rattle.orders.specs.Orders.{mostCommands, loadsIn}
-use Rattle.orders.specs.Run.{settingsAfterAll, tablesAfterAll, addressesAfterAll}
-use Rattle.state.specs.Interval.{mostEvents, mostReadings, noCounts}
-use Rattle.accepted_line.specs.Told.{commandChecks, sumTold, addressesTold, toldEcho}
-use Rattle.processor.specs.Line.{echoBy}
-use Rattle.processor.specs.Package.{isStaged, stagedEcho}
-use Rattle.output.specs.Output.{outBytes, packetsOf}
-use Rattle.tally.specs.Calls.{Lent, own, other, found, Call, event, reading, line, load, close, listing, Reply, answered, lined}
-use Rattle.tally.specs.Calls.{echoed, closed, listed}
-use Rattle.tally.specs.Events.{countsBy, eligiblesBy, slotsBy}
+use Rattle.command.specs.declared.ranges.Ranges.{Ranges}
+use Rattle.command.specs.Asked.{traitsOf}
+use Rattle.command.specs.Grammar.{lineOf}
+use Rattle.command_list.specs.declared.Waiting.{Waiting}
+use Rattle.command_list.specs.CommandList.{mostCommands, loadsIn, leftWaiting}
+use Rattle.command_list.specs.Run.{settingsAfterAll, tablesAfterAll, addressesAfterAll}
+use Rattle.output.specs.declared.Summary.{Summary}
+use Rattle.output.specs.Ended.{Ended}
+use Rattle.take_event.specs.Event.{eventLent, eventChecks}
+use Rattle.take_reading.specs.Reading.{readingChecks}
+use Rattle.take_line.specs.Line.{lineLent, lineChecks, commandChecks, sumReturned, addressesAfterLine, lineEcho}
+use Rattle.take_package.specs.Package.{packageLent, packageCallChecks, isStaged, stagedEcho}
+use Rattle.end_interval.specs.End.{endLent, noSummary}
+use Rattle.processor.specs.Close.{closeSpan, outRight, closeChecks}
+use Rattle.processor.specs.Listing.{listingLent, listingChecks}
+use Rattle.tally.specs.Steps.{Done}
+use Rattle.tally.specs.World.{Buffers, zipEach, Lent, own, other, found, Lending, ownsAll, othersLent}
+use Rattle.tally.specs.Calls.{Request, event, reading, line, loadPackage, listing, Call, SingleRequest, asks, close, SingleCall}
+use Rattle.tally.specs.Calls.{Reply, answered, echoed, closed, listed, Sent, closedWith, Listing, writtenListing}
+use Rattle.tally.specs.Calls.{Facts, nothing, oneEvent, oneEnded, oneListing, Answered, isZero}
+use Rattle.tally.specs.Events.{countsBy}
 
 -- "waiting commands, how many were accepted"
-pub record Told : Type 0 where
+pub record Commands : Type 0 where
   pub accepted : ℕ
   pub waiting : List Waiting
 
 -- "readings, and the interval's events in order"
-pub record Gathered : Type 0 where
+pub record OpenInterval : Type 0 where
   pub events : List Event
   pub readings : List (List ℕ)
 
@@ -57,270 +62,310 @@ pub data Wrote : Type 0 where
   byWrong : Wrote
 
 -- document 02, Point 4: a byte that "was last written by a package with a wrong sum"
-abbrev pub isBadly : Wrote → Bool
-isBadly unwritten = false
-isBadly byRight = false
-isBadly byWrong = true
+abbrev pub isWrong : Wrote → Bool
+isWrong unwritten = false
+isWrong byRight = false
+isWrong byWrong = true
 
 -- "It keeps tables and staging .., next address, reach, settings, waiting commands, how many were accepted, readings, and the
 -- interval's events in order", and how many closes there were; document 02, Point 4: "the tally keeping which staged bytes are bad", by
--- the packages alone. Of the lent marks it keeps what they hold, and judges by their length alone
+-- the packages alone. Of the lent bitmap it keeps what it holds, and judges by its length alone
 pub record Tally : Type 0 where
+  pub capacity : Capacity
   pub closes : ℕ
   pub tables : List ℕ
   pub staging : List ℕ
-  pub marks : List ℕ
+  pub bitmap : List ℕ
   pub wrote : (i : ℕ) → Wrote
   pub addresses : Addresses
   pub settings : Settings
-  pub told : Told
-  pub gathered : Gathered
+  pub commands : Commands
+  pub interval : OpenInterval
 
-abbrev pub noneTold : Told
-noneTold = record { accepted = 0; waiting = [] }
+abbrev pub noCommands : Commands
+noCommands = record { accepted = 0; waiting = [] }
 
-abbrev pub noneGathered : Gathered
-noneGathered = record { events = []; readings = [] }
+abbrev pub emptyInterval : OpenInterval
+emptyInterval = record { events = []; readings = [] }
 
 -- "(at first whatever bytes the lent ones hold) .. the rest starts as Fresh says"
-abbrev pub freshTally : (tables staging marks : List ℕ) → Tally
-freshTally tables staging marks = record {
+abbrev pub freshTally : Capacity → (tables staging bitmap : List ℕ) → Tally
+freshTally c tables staging bitmap = record {
+  capacity = c;
   closes = 0;
   tables = tables;
   staging = staging;
-  marks = marks;
+  bitmap = bitmap;
   wrote = λ i. unwritten;
   addresses = freshAddresses;
   settings = freshSettings;
-  told = noneTold;
-  gathered = noneGathered;
+  commands = noCommands;
+  interval = emptyInterval;
 }
 
 -- ---- what is worked out from the events and readings, "from the tally's tables and settings"
 
 abbrev pub eventsOf : Tally → List Event
-eventsOf t = t .gathered .events
+eventsOf t = t .interval .events
 
 abbrev pub countsOf : Tally → Counts
 countsOf t = countsBy (t .settings) (t .tables) (eventsOf t)
 
-abbrev pub eligibles : Tally → List Event
-eligibles t = eligiblesBy (t .settings) (t .tables) (eventsOf t)
+-- the number of slots
+abbrev pub slotsFor : Tally → ℕ
+slotsFor t = numbersOf (t .capacity) .slots
 
-abbrev pub ownSlots : Tally → List ℕ
-ownSlots t = slotsBy (t .settings) (t .tables) (eventsOf t)
+-- the eligible ones among the events, and what becomes of the slots
+abbrev pub selected : Tally → Selection
+selected t = selectionOf (slotsFor t) (t .settings) (t .tables) (eventsOf t)
 
 -- each total: the sum of its counts in all readings
 unfoldable pub totalsBy : List (List ℕ) → List ℕ
-totalsBy rs = table 8 (λ i. total (map (λ r. getD r i 0) rs))
+totalsBy rs = table totalCount (λ i. total (map (λ r. getD r i 0) rs))
 
 abbrev pub totalsOf : Tally → List ℕ
-totalsOf t = totalsBy (t .gathered .readings)
+totalsOf t = totalsBy (t .interval .readings)
 
 abbrev pub frameOf : Tally → ℕ
 frameOf t = t .closes % 65536
 
 -- ---- the number of a call, "judged by what the tally keeps and what the call lends, the same slots being taken as the tally's"
 
-abbrev pub lentTables : Tally → Lent → List ℕ
-lentTables t l = found l (t .tables)
-
-abbrev pub lentStaging : Tally → Lent → List ℕ
-lentStaging t l = found l (t .staging)
-
-abbrev pub lentMarks : Tally → Lent → List ℕ
-lentMarks t l = found l (t .marks)
-
-abbrev pub lentSlots : Tally → Lent → List ℕ
-lentSlots t l = found l (ownSlots t)
-
 abbrev pub loadWaitsFor : Tally → Bool
-loadWaitsFor t = leb 1 (loadsIn (t .told .waiting))
+loadWaitsFor t = leb 1 (loadsIn (t .commands .waiting))
 
 abbrev pub fullFor : Tally → Bool
-fullFor t = leb mostCommands (t .told .accepted)
+fullFor t = leb mostCommands (t .commands .accepted)
+
+-- the reach, and LIMHI's largest value
+abbrev pub rangesFor : Tally → Ranges
+rangesFor t = record { reach = t .addresses .reach; limhi = numbersOf (t .capacity) .limhi }
 
 abbrev pub lineFor : Tally → (bytes : List ℕ) → Line
-lineFor t bytes = lineOf bytes (t .addresses .reach)
+lineFor t bytes = lineOf bytes (rangesFor t)
 
--- no byte below the reach was last written by a package with a wrong sum; of other marks than the own it is as they say
+-- no byte below the reach was last written by a package with a wrong sum; of another bitmap than the own it is as that says
 abbrev pub noneWrong : (wrote : ℕ → Wrote) (reach : ℕ) → Bool
-noneWrong wrote reach = each reach (λ i. not (isBadly (wrote i)))
+noneWrong wrote reach = each reach (λ i. not (isWrong (wrote i)))
 
 abbrev pub goodFor : Tally → Lent → Bool
 goodFor t own = noneWrong (t .wrote) (t .addresses .reach)
 goodFor t (other x) = noneBad x (t .addresses .reach)
 
 abbrev pub sumFor : Tally → Lent → ℕ
-sumFor t l = stagedSum (lentStaging t l) (t .addresses .reach)
+sumFor t l = stagedSum (found l (t .staging)) (t .addresses .reach)
 
-abbrev pub checksFor : Tally → Call → List Check
-checksFor t (event tables slots e) =
-    (eqb (length (lentTables t tables)) tableBytes && eqb (length (lentSlots t slots)) slotCount, cause.bufferOrState)
-    ∷ (inRange e, cause.fieldRange)
-    ∷ (ltb (length (eventsOf t)) mostEvents, cause.intervalFull)
-    ∷ []
-checksFor t (reading counts) = (ltb (length (t .gathered .readings)) mostReadings, cause.intervalFull) ∷ []
-checksFor t (line bytes staging marks echo) = (
-  eqb (length (lentStaging t staging)) stagingBytes && eqb (length (lentMarks t marks)) marksBytes && eqb (length echo) echoBytes,
-  cause.bufferOrState,
-)
-    ∷ (bytesOk bytes, cause.lineBytes)
-    ∷ commandChecks (loadWaitsFor t) (fullFor t) (goodFor t marks) (sumFor t staging) (lineFor t bytes)
-checksFor t (load bytes staging marks echo) = (
-  eqb (length (lentStaging t staging)) stagingBytes && eqb (length (lentMarks t marks)) marksBytes && eqb (length echo) echoBytes,
-  cause.bufferOrState,
-)
-    ∷ (not (loadWaitsFor t), cause.loadWaits)
-    ∷ packageChecks bytes (t .addresses .next)
-checksFor t (close time tables staging slots out) = (
-  eqb (length (lentTables t tables)) tableBytes && eqb (length (lentStaging t staging)) stagingBytes
-      && eqb (length (lentSlots t slots)) slotCount && eqb (length out) outBytes && all recordGood (lentSlots t slots),
-  cause.bufferOrState,
-)
-    ∷ []
-checksFor t (listing i time tables out) =
-    (eqb (length (lentTables t tables)) tableBytes && eqb (length out) packetBytes, cause.bufferOrState)
-    ∷ (ltb i listingPackets, cause.notListed)
-    ∷ []
+-- what the own buffers hold, as the tally keeps it or works it out
+abbrev pub buffersOf : Tally → Buffers (List ℕ)
+buffersOf t = record { tables = t .tables; staging = t .staging; bitmap = t .bitmap; slots = selected t .slots }
 
-unfoldable pub numberFor : Tally → Call → ℕ
-numberFor t c = numberBy (checksFor t c)
+-- what a call finds in what it is lent
+abbrev pub lentTo : Tally → Lending → Buffers (List ℕ)
+lentTo t l = zipEach found l (buffersOf t)
+
+-- by the calls' own checks, where the tally's state is within its limits
+abbrev pub eventChecksFor : Tally → Lending → Event → List Check
+eventChecksFor t l e =
+    eventChecks (eventLent (t .capacity) (length (lentTo t l .tables)) (length (lentTo t l .slots))) (length (eventsOf t)) e
+
+unfoldable pub eventNumberFor : Tally → Lending → Event → ℕ
+eventNumberFor t l e = numberBy (eventChecksFor t l e)
+
+unfoldable pub readingNumberFor : Tally → ℕ
+readingNumberFor t = numberBy (readingChecks true (length (t .interval .readings)))
+
+abbrev pub lineChecksFor : Tally → Lending → (bytes echo : List ℕ) → List Check
+lineChecksFor t l bytes echo =
+    lineChecks (lineLent (length (lentTo t l .staging)) (length (lentTo t l .bitmap)) (length echo)) bytes
+    (commandChecks (loadWaitsFor t) (fullFor t) (goodFor t (l .bitmap)) (sumFor t (l .staging)) (lineFor t bytes))
+
+unfoldable pub lineNumberFor : Tally → Lending → (bytes echo : List ℕ) → ℕ
+lineNumberFor t l bytes echo = numberBy (lineChecksFor t l bytes echo)
+
+unfoldable pub packageNumberFor : Tally → Lending → (bytes echo : List ℕ) → ℕ
+packageNumberFor t l bytes echo =
+    numberBy
+    (packageCallChecks (packageLent (length (lentTo t l .staging)) (length (lentTo t l .bitmap)) (length echo)) (loadWaitsFor t) bytes
+    (t .addresses .next))
+
+abbrev pub closeSoundFor : Tally → Lending → (out : List ℕ) → Bool
+closeSoundFor t l out =
+    let b = lentTo t l in
+    endLent (t .capacity) (length (b .tables)) (length (b .staging)) (b .slots) && outRight (t .capacity) (length out)
+
+unfoldable pub closeNumberFor : Tally → Lending → (out : List ℕ) → ℕ
+closeNumberFor t l out = numberBy (closeChecks (closeSoundFor t l out))
+
+unfoldable pub listingNumberFor : Tally → Lending → (i : ℕ) (out : List ℕ) → ℕ
+listingNumberFor t l i out = numberBy (listingChecks (listingLent (length (lentTo t l .tables)) (length out)) i)
 
 -- ---- the tally after a call
 
-abbrev pub withGathered : Tally → Gathered → Tally
-withGathered t g = record {
+abbrev pub withOpen : Tally → OpenInterval → Tally
+withOpen t g = record {
+  capacity = t .capacity;
   closes = t .closes;
   tables = t .tables;
   staging = t .staging;
-  marks = t .marks;
+  bitmap = t .bitmap;
   wrote = t .wrote;
   addresses = t .addresses;
   settings = t .settings;
-  told = t .told;
-  gathered = g;
+  commands = t .commands;
+  interval = g;
 }
 
-abbrev pub withTold : Tally → Told → Addresses → Tally
-withTold t o a = record {
+abbrev pub withCommands : Tally → Commands → Addresses → Tally
+withCommands t o a = record {
+  capacity = t .capacity;
   closes = t .closes;
   tables = t .tables;
   staging = t .staging;
-  marks = t .marks;
+  bitmap = t .bitmap;
   wrote = t .wrote;
   addresses = a;
   settings = t .settings;
-  told = o;
-  gathered = t .gathered;
+  commands = o;
+  interval = t .interval;
 }
 
 -- "Event: joins the events"
-abbrev pub joined : Tally → Event → Tally
-joined t e = withGathered t (record { events = eventsOf t ++ e ∷ []; readings = t .gathered .readings })
+abbrev pub eventJoined : Tally → Event → Tally
+eventJoined t e = withOpen t (record { events = eventsOf t ++ e ∷ []; readings = t .interval .readings })
 
 -- "Reading: counted"
 abbrev pub read : Tally → List ℕ → Tally
-read t counts = withGathered t (record { events = eventsOf t; readings = t .gathered .readings ++ counts ∷ [] })
+read t counts = withOpen t (record { events = eventsOf t; readings = t .interval .readings ++ counts ∷ [] })
 
 -- "Line: counted, and waits or is carried out; an empty one does nothing"
-abbrev pub oneMore : Told → List Waiting → Told
+abbrev pub oneMore : Commands → List Waiting → Commands
 oneMore o ws = record { accepted = o .accepted + 1; waiting = ws }
 
-abbrev pub toldBy : Told → Line → Told
-toldBy o Empty = o
-toldBy o Wrong = o
-toldBy o (Waits c) = oneMore o (o .waiting ++ record { command = c } ∷ [])
-toldBy o LoadZero = oneMore o (o .waiting)
-toldBy o (LoadAt a) = oneMore o (o .waiting)
-toldBy o Ask = oneMore o (o .waiting)
-toldBy o (Commit a y n) = oneMore o (o .waiting ++ record { command = Load a y } ∷ [])
+abbrev pub commandsAfter : Commands → Line → Commands
+commandsAfter o l = cond (traitsOf l .command) (oneMore o (o .waiting ++ leftWaiting (traitsOf l .leaves))) o
 
-abbrev pub heard : Tally → Line → Tally
-heard t l = withTold t (toldBy (t .told) l) (addressesTold (t .addresses) l)
+abbrev pub lineTaken : Tally → Line → Tally
+lineTaken t l = withCommands t (commandsAfter (t .commands) l) (addressesAfterLine (t .addresses) l)
 
 -- a package's bytes were last written by it
-abbrev pub byIts : (right : Bool) → Wrote
-byIts r = cond r byRight byWrong
+abbrev pub writerBy : (right : Bool) → Wrote
+writerBy r = cond r byRight byWrong
 
 -- those that n bytes from `next` on were written by, and the others as before
 abbrev pub wroteAfter : (wrote : ℕ → Wrote) (next n : ℕ) → Wrote → (i : ℕ) → Wrote
 wroteAfter wrote next n by i = cond (leb next i && ltb i (next + n)) by (wrote i)
 
 -- "Package: placed"
-abbrev pub staged : Tally → List ℕ → Tally
-staged t bytes = record {
+abbrev pub packagePlaced : Tally → List ℕ → Tally
+packagePlaced t bytes = record {
+  capacity = t .capacity;
   closes = t .closes;
   tables = t .tables;
   staging = stagingAfter (t .staging) (t .addresses .next) bytes;
-  marks = marksAfter (t .marks) (t .addresses .next) (payloadBytes bytes) (not (eqb (receivedSum bytes) (computedSum bytes)));
-  wrote = wroteAfter (t .wrote) (t .addresses .next) (payloadBytes bytes) (byIts (eqb (receivedSum bytes) (computedSum bytes)));
+  bitmap = bitmapAfter (t .bitmap) (t .addresses .next) (payloadBytes bytes) (not (eqb (receivedSum bytes) (computedSum bytes)));
+  wrote = wroteAfter (t .wrote) (t .addresses .next) (payloadBytes bytes) (writerBy (eqb (receivedSum bytes) (computedSum bytes)));
   addresses = addressesAfter (t .addresses) bytes;
   settings = t .settings;
-  told = t .told;
-  gathered = t .gathered;
+  commands = t .commands;
+  interval = t .interval;
 }
 
 -- "Close: ends the interval; waiting commands run in order; events, readings and accepted commands are none again"
 abbrev pub ended : Tally → Tally
 ended t = record {
+  capacity = t .capacity;
   closes = t .closes + 1;
-  tables = tablesAfterAll (t .tables) (t .staging) (t .addresses .reach) (t .told .waiting);
+  tables = tablesAfterAll (t .tables) (t .staging) (t .addresses .reach) (t .commands .waiting);
   staging = t .staging;
-  marks = t .marks;
+  bitmap = t .bitmap;
   wrote = t .wrote;
-  addresses = addressesAfterAll (t .addresses) (t .told .waiting);
-  settings = settingsAfterAll (t .settings) (t .told .waiting);
-  told = noneTold;
-  gathered = noneGathered;
+  addresses = addressesAfterAll (t .addresses) (t .commands .waiting);
+  settings = settingsAfterAll (t .settings) (t .commands .waiting);
+  commands = noCommands;
+  interval = emptyInterval;
 }
 
--- what a call that is carried out makes of it
-abbrev pub afterCall : Tally → Call → Tally
-afterCall t (event tables slots e) = joined t e
-afterCall t (reading counts) = read t counts
-afterCall t (line bytes staging marks echo) = heard t (lineFor t bytes)
-afterCall t (load bytes staging marks echo) = staged t bytes
-afterCall t (close time tables staging slots out) = ended t
-afterCall t (listing i time tables out) = t
+-- what a close returns: taken is the number of events
+abbrev pub summaryFor : Tally → Summary
+summaryFor t = record { taken = length (eventsOf t); counts = countsOf t; filled = selected t .filled }
+
+-- what it hands to the packets
+abbrev pub endedFor : Tally → (time : ℕ) → Ended
+endedFor t time = record {
+  frame = frameOf t;
+  time = time;
+  totals = totalsOf t;
+  summary = summaryFor t;
+  settings = t .settings;
+  sum = tableSum (t .tables);
+  slots = selected t .slots;
+}
+
+abbrev pub sentFor : Tally → (time : ℕ) → Sent
+sentFor t time = record { ended = endedFor t time; span = closeSpan (t .capacity) }
+
+abbrev pub listingFor : Tally → (i time : ℕ) → Listing
+listingFor t i time = record { frame = frameOf t; time = time; i = i; tables = t .tables }
+
+-- ---- the calls, one clause for each
+
+-- whether it is carried out; the tally, the answer and what is known of it then; what it answers where it is refused
+pub record Judged : Type 0 where
+  pub carried : Bool
+  pub next : Tally
+  pub done : Reply
+  pub facts : Facts
+  pub refused : Reply
+
+abbrev pub judged : (carried : Bool) → Tally → (done : Reply) → Facts → (refused : Reply) → Judged
+judged b t r f q = record { carried = b; next = t; done = r; facts = f; refused = q }
 
 -- the numbers of a call that changes something: 0, and for a package 10 ("a package answered 10, and only that one is placed")
-abbrev pub hasEffect : Call → (number : ℕ) → Bool
-hasEffect (event tables slots e) n = eqb n cause.carriedOut
-hasEffect (reading counts) n = eqb n cause.carriedOut
-hasEffect (line bytes staging marks echo) n = eqb n cause.carriedOut
-hasEffect (load bytes staging marks echo) n = isStaged n
-hasEffect (close time tables staging slots out) n = eqb n cause.carriedOut
-hasEffect (listing i time tables out) n = eqb n cause.carriedOut
+unfoldable pub tallied : Tally → Lending → Request → Judged
+tallied t l (event e) =
+    let n = eventNumberFor t l e in
+    judged (isZero n) (eventJoined t e) (answered cause.carriedOut) oneEvent (answered n)
+tallied t l (reading c) =
+    let n = readingNumberFor t in
+    judged (isZero n) (read t (c .counts)) (answered cause.carriedOut) nothing (answered n)
+tallied t l (line bytes echo) =
+    let n = lineNumberFor t l bytes echo in
+    let sum = sumReturned (lineFor t bytes) (sumFor t (l .staging)) in
+    judged (isZero n) (lineTaken t (lineFor t bytes)) (echoed cause.carriedOut sum (lineEcho (frameOf t) (t .commands .accepted) bytes)) nothing
+    (echoed n 0 (cond (leb cause.wrongLine n) (refusedEcho bytes) echo))
+tallied t l (loadPackage bytes echo) =
+    let n = packageNumberFor t l bytes echo in
+    judged (isStaged n) (packagePlaced t bytes) (echoed n 0 (stagedEcho n (t .addresses .next) bytes)) nothing (echoed n 0 echo)
+tallied t l (listing i time out) =
+    let n = listingNumberFor t l i out in
+    let p = listingFor t i time in
+    judged (isZero n) t (listed cause.carriedOut (writtenListing p)) (oneListing p) (listed n out)
 
-unfoldable pub tnext : Tally → Call → Tally
-tnext t c = cond (hasEffect c (numberFor t c)) (afterCall t c) t
+-- a call that is refused changes nothing; and no call changes a buffer that is not the processor's own
+abbrev pub talliedAs : Tally → Lending → Judged → Done Tally Answered
+talliedAs t l j = record {
+  carried = j .carried;
+  owned = ownsAll l;
+  next = cond (j .carried) (j .next) t;
+  answer = record {
+    reply = cond (j .carried) (j .done) (j .refused);
+    facts = cond (j .carried) (j .facts) nothing;
+    others = othersLent l;
+  };
+}
 
--- ---- what the tally answers
+unfoldable pub talliedBy : {A : Type 0} → (Tally → Lending → A → Judged) → Tally → Call A → Done Tally Answered
+talliedBy tallied t c = talliedAs t (c .lent) (tallied t (c .lent) (c .request))
 
--- "Close .. returns the taken count, 116 boxes, 12 beacons and filled slots": as many as there are eligible events, up to 704
-abbrev pub closedReply : Tally → (time : ℕ) → Reply
-closedReply t time =
-    closed cause.carriedOut (length (eventsOf t)) (countsOf t) (min slotCount (length (eligibles t)))
-    (packetsOf (frameOf t) time (totalsOf t) (countsOf t) (t .settings) (t .tables) (ownSlots t))
+-- a close
+unfoldable pub closeTallied : Tally → Lending → (time : ℕ) (out : List ℕ) → Judged
+closeTallied t l time out =
+    let n = closeNumberFor t l out in
+    judged (isZero n) (ended t) (closedWith (sentFor t time)) (oneEnded (sentFor t time)) (closed n (noSummary ∷ []) out)
 
-abbrev pub replyBy : (number : ℕ) → Tally → Call → Reply
-replyBy n t (event tables slots e) = answered n
-replyBy n t (reading counts) = answered n
-replyBy n t (line bytes staging marks echo) =
-    lined n (echoBy n (toldEcho (frameOf t) (t .told .accepted) bytes) (refusedEcho bytes) echo)
-    (cond (eqb n cause.carriedOut) (sumTold (lineFor t bytes) (sumFor t staging)) 0)
-replyBy n t (load bytes staging marks echo) = echoed n (cond (isStaged n) (stagedEcho n (t .addresses .next) bytes) echo)
-replyBy n t (close time tables staging slots out) = cond (eqb n cause.carriedOut) (closedReply t time) (closed n 0 noCounts 0 out)
-replyBy n t (listing i time tables out) = listed n (cond (eqb n cause.carriedOut) (listingPacket (frameOf t) time i (t .tables)) out)
+unfoldable pub singleTallied : Tally → Lending → SingleRequest → Judged
+singleTallied t l (asks a) = tallied t l a
+singleTallied t l (close time out) = closeTallied t l time out
 
-unfoldable pub treply : Tally → Call → Reply
-treply t c = replyBy (numberFor t c) t c
-
-unfoldable pub treplies : Tally → List Call → List Reply
-treplies t [] = []
-treplies t (c ∷ cs) = treply t c ∷ treplies (tnext t c) cs
-
-unfoldable pub tafter : Tally → List Call → Tally
-tafter t [] = t
-tafter t (c ∷ cs) = tafter (tnext t c) cs
+abbrev pub tallyStep : Tally → SingleCall → Done Tally Answered
+tallyStep = talliedBy singleTallied

@@ -3,3 +3,4 @@ pub mod Bytes
 pub mod Lists
 pub mod Pieces
 pub mod Text
+pub mod Words

@@ -1,5 +1,6 @@
 -- Tests and counts on lists that several crates share. Assumes nothing.
 use Prim.Native.Nat.{ℕ, _+_, _<_}
+use mathlib.Core.Logic.{_≢_}
 use mathlib.Core.Bool.{Bool, true, false, _&&_, _||_}
 use mathlib.Core.List.{List, [], _∷_}
 use lib.ListN.{getD, set}
@@ -9,6 +10,16 @@ use lib.Dec.{leb, eqb}
 abbrev pub all : {A : Type 0} → (A → Bool) → List A → Bool
 all p [] = true
 all p (x ∷ xs) = p x && all p xs
+
+-- each element has the property
+abbrev pub All : {A : Type 0} → (A → Type 0) → List A → Type 0
+All P [] = Unit {0}
+All P (x ∷ xs) = P x × All P xs
+
+-- no two elements are equal
+abbrev pub Distinct : {A : Type 0} → List A → Type 0
+Distinct [] = Unit {0}
+Distinct (x ∷ xs) = All (λ y. x ≢ y) xs × Distinct xs
 
 -- x is at most the limit
 abbrev pub atMost : ℕ → ℕ → Bool

@@ -70,20 +70,26 @@ fn sum_32(part: &[u8], at: usize) -> u32
     sum_8(part, at) + sum_8(part, at + 8) + sum_8(part, at + 16) + sum_8(part, at + 24)
 }
 
-// The same of many bytes, 32 at a time.
+// The sum of the first n times 32 bytes.
+fn sum_by_32(part: &[u8], n: usize) -> u32
+    requires { ⌜ (length (now part) ≤ 1000000) × (32 * n ≤ length (now part)) ⌝ }
+    ensures { λ r. ⌜ (total (now (part .entry)) ≡ r + total (drop (32 * n) (now (part .entry)))) × (r ≤ 8160 * n) ⌝ }
+{
+    let mut sum: u32 = 0;
+    let mut i: usize = 0;
+    while i < n {
+        sum = sum + sum_32(part, 32 * i);
+        i += 1;
+    }
+    sum
+}
+
+// The sum of many bytes, 32 at a time.
 pub fn long_sum(part: &[u8]) -> u32
     requires { ⌜ length (now part) ≤ 1000000 ⌝ }
     ensures { λ r. ⌜ (r ≡ total (now (part .entry))) × (r ≤ 255 * length (now (part .entry))) ⌝ }
 {
-    let mut sum: u32 = 0;
-    let mut i: usize = 0;
-    while 32 <= part.len() - i {
-        sum = sum + sum_32(part, i);
-        i += 32;
-    }
-    while i < part.len() {
-        sum = sum + wide8(part[i]);
-        i += 1;
-    }
-    sum
+    let n = part.len() / 32;
+    let rest = 32 * n;
+    sum_by_32(part, n) + byte_sum(&part[rest..])
 }

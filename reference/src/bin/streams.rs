@@ -17,6 +17,8 @@ streams SEED CALLS DIR [options]   a stream of CALLS calls in DIR/stdin, its tab
     --full N         before them N intervals with all 704 slots filled
     --unclosed N     the same without the closes
     --frames N       before them N intervals in which nothing happens
+    --limits         before them a state at each limit, one below and one beyond it, and calls on each
+    --states         among them states that are handed in, within their limits or not, and slots
     --wrong-tables   tables.bin is of another length
 streams --example DIR              a minute with protons, helium, oxygen and iron, for `minute` or `replay`
 streams --archive SEED N DIR       N packets of the first edition in DIR/archive, for `convert`
@@ -58,6 +60,8 @@ fn stream(arguments: &[String]) -> Option<()> {
             "--full" => stream.full_intervals(options.next()?.parse().ok()?, true),
             "--unclosed" => stream.full_intervals(options.next()?.parse().ok()?, false),
             "--frames" => stream.empty_intervals(options.next()?.parse().ok()?),
+            "--limits" => stream.every_limit(),
+            "--states" => stream.states = true,
             "--wrong-tables" => {
                 let length = tables.len();
                 tables.resize(stream.random.pick(&[0, 1, length - 1, length + 1, 2 * length]), 0);

@@ -18,8 +18,9 @@ const SUM_ERRORS: [u16; 4] = [1, 255, 256, 65_535];
 impl Stream {
     // Lines about staging.
 
+    /// The reach; of a state over that limit, as far as staging goes.
     pub fn reach(&self) -> usize {
-        self.station.processor.addresses.reach
+        self.station.processor.addresses.reach.min(STAGING_BYTES)
     }
 
     /// What lines depend on at present.
@@ -63,7 +64,7 @@ impl Stream {
     /// more would be too many.
     fn settle(&mut self, commands: usize) {
         let processor = &self.station.processor;
-        if processor.commit_waits || processor.accepted + commands > MOST_COMMANDS {
+        if processor.commit_waits() || processor.accepted + commands > MOST_COMMANDS {
             self.close();
         }
     }
@@ -122,9 +123,9 @@ impl Stream {
 
     /// The first bad bytes below the reach, as many as stand together.
     fn bad_bytes(&self) -> Option<Range<usize>> {
-        let marks = self.station.marks.as_slice().try_into().expect("marks of the right length");
-        let first = (0..self.reach()).find(|i| is_bad(marks, *i))?;
-        let behind = (first..self.reach()).find(|i| !is_bad(marks, *i));
+        let bitmap = self.station.bitmap.as_slice().try_into().expect("a bitmap of the right length");
+        let first = (0..self.reach()).find(|i| is_bad(bitmap, *i))?;
+        let behind = (first..self.reach()).find(|i| !is_bad(bitmap, *i));
         Some(first..behind.unwrap_or(self.reach()))
     }
 
@@ -221,8 +222,10 @@ impl Stream {
 
     /// The load of the commit that waits, if one does.
     fn waiting_load(&self) -> Option<Load> {
-        self.station.processor.waiting.iter().find_map(|waiting| match waiting {
-            Some(Command::Commit(load, _)) => Some(*load),
+        let processor = &self.station.processor;
+        let waiting = processor.waiting.iter().take(processor.waits);
+        waiting.into_iter().find_map(|one| match one.given(self.reach()) {
+            Some(Command::Commit(load, _)) => Some(load),
             _ => None,
         })
     }

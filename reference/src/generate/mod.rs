@@ -11,6 +11,7 @@ pub mod lines;
 pub mod listings;
 pub mod random;
 pub mod rates;
+pub mod states;
 pub mod stories;
 pub mod stream;
 pub mod wild;

@@ -25,6 +25,9 @@ impl Stream {
     }
 
     fn story(&mut self) {
+        if self.states && self.random.percent(15) {
+            return self.handed_states();
+        }
         match self.random.below(128) {
             0..=29 => self.events_up_to(30),
             30..=36 => self.readings_up_to(4),
@@ -254,13 +257,16 @@ impl Stream {
 
     // The end.
 
-    /// An unknown kind or a body that is too short.
+    /// An unknown kind, a body that is too short, bytes that are no state, or slots of another length.
     fn bad_record(&mut self) {
         if self.random.percent(30) {
-            let minute: &[u8] = &[0, 5, 6, 7, 8, 9, 10, 11, 255];
-            let kinds = if self.form == Form::Minute { minute } else { &[0, 12, 255] };
+            let minute: &[u8] = &[0, 5, 6, 7, 8, 9, 10, 11, 20, 21, 22, 255];
+            let kinds = if self.form == Form::Minute { minute } else { &[0, 12, 19, 23, 255] };
             self.bytes.push(self.random.pick(kinds));
             return;
+        }
+        if self.states && self.random.percent(40) {
+            return self.no_state();
         }
         let call = match self.random.below(10) {
             0 => Call::Event(self.any_event()),

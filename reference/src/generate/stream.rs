@@ -25,6 +25,8 @@ pub struct Stream {
     /// No more calls than these are written.
     pub most: usize,
     pub time: u32,
+    /// Whether states are handed in now and then.
+    pub states: bool,
 }
 
 pub fn offsets(tables: &[u8]) -> [i32; 3] {
@@ -52,6 +54,7 @@ impl Stream {
             gathered: 0,
             most: usize::MAX,
             time,
+            states: false,
         }
     }
 
@@ -75,6 +78,9 @@ impl Stream {
             Ok(Some(Call::Gathered)) => self.station.gather_anew(),
             Ok(Some(Call::ToSecond(packet))) => drop(self.station.to_second(&packet)),
             Ok(Some(Call::ToFirst(packet))) => drop(self.station.to_first(&packet)),
+            Ok(Some(Call::State(state))) => self.station.hand_in(*state),
+            Ok(Some(Call::Show)) => {}
+            Ok(Some(Call::Slots(slots))) => self.station.hand_in_slots(&slots),
             Ok(None) | Err(_) => unreachable!("a record just written"),
         }
     }

@@ -3,7 +3,7 @@ use mathlib.Core.Path.{_≡_}
 use native.Mathlib.Omega.{arith}
 use lib.ListN.{length}
 use Rattle.buffered.specs.Input.{Held}
-use Rattle.minute_records.proofs.RecordLaws.{first-lies}
+use Rattle.minute_calls.proofs.RecordLaws.{first-lies}
 use borrow.Author.Needs.{needs}
 use Rattle.minute.proofs.run.Statement.{statement}
 use Rattle.minute.proofs.run.Tie as tie

@@ -11,7 +11,7 @@ use Rattle.stream.specs.Record.{LongAs}
 use Rattle.stream.specs.declared.record.Next.{Next}
 use Rattle.stream.specs.declared.record.Next.the-variants.{Record}
 use Rattle.stream.specs.declared.record.Step.{Step}
-use Rattle.minute_records.specs.Record.{LiesIn}
+use Rattle.minute_calls.specs.Record.{LiesIn}
 use Rattle.minute.specs.Step.{Stepped}
 use borrow.Author.Needs.{needs}
 use Rattle.minute.proofs.step.Statement.{statement}

@@ -6,7 +6,7 @@ use native.Mathlib.Omega.{arith}
 use Rattle.wire.proofs.Lists.{all-at, each-zeros}
 use Rattle.packet.specs.declared.stamp.Stamp.{Stamp}
 use Rattle.rate_code.specs.Rate.{countLimit}
-use Rattle.packet.specs.Layout.{boxCount, beaconCount}
+use Rattle.boxes.specs.Boxes.{boxCount, beaconCount}
 use Rattle.packet_cases.proofs.main.Statement.{statement}
 use Rattle.packet_cases.proofs.main.Tie as tie
 

@@ -3,20 +3,20 @@ use mathlib.Core.Path.{_≡_}
 use native.Mathlib.Omega.{arith}
 use lib.ListN.{length}
 use Rattle.buffered.specs.Input.{Held}
-use Rattle.replay_records.proofs.RecordLaws.{first-lies}
+use Rattle.replay_calls.proofs.RecordLaws.{first-lies}
 use borrow.Author.Needs.{needs}
 use Rattle.replay.proofs.run.Statement.{statement}
 use Rattle.replay.proofs.run.Tie as tie
 
 abbrev Inv-loop : tie.InvT-loop
-Inv-loop tables₀ staging₀ marks₀ slots₀ echo₀ table₀ buffer₀ text₀ state₀ gathered₀ input₀ at₀ turns₀
-    tables staging marks slots echo table buffer text state gathered input at turns =
-    (length tables ≡ length tables₀) × (length staging ≡ length staging₀) × (length marks ≡ length marks₀) × (length slots ≡ length slots₀) × (length echo ≡ length echo₀)
+Inv-loop tables₀ staging₀ bitmap₀ slots₀ echo₀ table₀ buffer₀ text₀ state₀ gathered₀ input₀ at₀ turns₀
+    tables staging bitmap slots echo table buffer text state gathered input at turns =
+    (length tables ≡ length tables₀) × (length staging ≡ length staging₀) × (length bitmap ≡ length bitmap₀) × (length slots ≡ length slots₀) × (length echo ≡ length echo₀)
     × (length table ≡ length table₀) × (length buffer ≡ length buffer₀) × (length text ≡ length text₀) × Held input buffer
 
 abbrev μ-loop : tie.MeasureT-loop
-μ-loop tables₀ staging₀ marks₀ slots₀ echo₀ table₀ buffer₀ text₀ state₀ gathered₀ input₀ at₀ turns₀
-    tables staging marks slots echo table buffer text state gathered input at turns =
+μ-loop tables₀ staging₀ bitmap₀ slots₀ echo₀ table₀ buffer₀ text₀ state₀ gathered₀ input₀ at₀ turns₀
+    tables staging bitmap slots echo table buffer text state gathered input at turns =
     turns
 
 step-requires : tie.Need-step-requires Inv-loop μ-loop

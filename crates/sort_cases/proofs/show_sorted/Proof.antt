@@ -3,6 +3,7 @@ use mathlib.Core.Path.{sym, subst}
 use native.Mathlib.Omega.{arith}
 use denote.Ref.{now}
 use Rattle.wire.proofs.Lists.{each-zeros}
+use Rattle.boxes.specs.Boxes.{boxCount, beaconCount}
 use Rattle.sort.specs.Boxes.{OutcomeNames}
 use Rattle.sort.proofs.EventLaws.{outcome-names}
 use borrow.Author.Needs.{needs}
@@ -21,7 +22,7 @@ record-of-requires c κs =
 
 counted-requires : tie.Need-counted-requires
 counted-requires c κs =
-    (names (c .before), (each-zeros 1000000 116 (omega arith), each-zeros 1000000 12 (omega arith)))
+    (names (c .before), (each-zeros 1000000 boxCount (omega arith), each-zeros 1000000 beaconCount (omega arith)))
 
 pub show-sorted-spec : {M : Type 1} → statement M
 show-sorted-spec =

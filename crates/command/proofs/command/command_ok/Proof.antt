@@ -7,8 +7,8 @@ use Rattle.command.proofs.command.command_ok.Statement.{statement}
 use Rattle.command.proofs.command.command_ok.Tie as tie
 
 -- what the definition says of the command that the code found
-of-told : (s : tie.Start) {x : Command} → s .args .c ≡ x → commandOk x (s .args .reach) ≡ commandOk (s .args .c) (s .args .reach)
-of-told s e = sym (ap (λ (x : Command). commandOk x (s .args .reach)) e)
+of-told : (s : tie.Start) {x : Command} → s .args .c ≡ x → commandOk x (s .args .ranges) ≡ commandOk (s .args .c) (s .args .ranges)
+of-told s e = sym (ap (λ (x : Command). commandOk x (s .args .ranges)) e)
 
 returns : tie.Need-returns
 returns c = let k = c .before .before in rw (c .most-of .ensures) (of-told (k .before .before) (k .c .given .1))

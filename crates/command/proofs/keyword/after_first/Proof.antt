@@ -14,21 +14,21 @@ returns c =
     let m = c .before .before .before .before .before in
     let s = m .before .before .before .args in
     c .with-three .ensures
-    ∙ sym (λ i. threeArguments (now (s .keyword)) (Value (s .a)) (m .m .given .1 i) (c .before .before .l .given .1 i) (s .reach))
+    ∙ sym (λ i. threeArguments (now (s .keyword)) (Value (s .a)) (m .m .given .1 i) (c .before .before .l .given .1 i) (s .ranges))
 
 returns-2 : tie.Need-returns-2
 unfolding threeArguments
 returns-2 c =
     let m = c .before .before .before in
     let s = m .before .before .before .args in
-    sym (λ i. threeArguments (now (s .keyword)) (Value (s .a)) (m .m .given .1 i) (c .enum-told .given .1 i) (s .reach))
+    sym (λ i. threeArguments (now (s .keyword)) (Value (s .a)) (m .m .given .1 i) (c .enum-told .given .1 i) (s .ranges))
 
 returns-3 : tie.Need-returns-3
 unfolding threeArguments
 returns-3 c =
     let s = c .before .before .before in
     sym
-    (ap (λ (x : Argument). threeArguments (now (s .args .keyword)) (Value (s .args .a)) x (s .args .l) (s .args .reach))
+    (ap (λ (x : Argument). threeArguments (now (s .args .keyword)) (Value (s .args .a)) x (s .args .l) (s .args .ranges))
     (c .enum-told2 .given .1))
 
 pub after-first-spec : {M : Type 1} → statement M

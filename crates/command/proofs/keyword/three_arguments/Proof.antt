@@ -12,13 +12,13 @@ returns c =
     let n = c .before .before in
     let s = n .before .before .before .args in
     c .after-first .ensures
-    ∙ sym (ap (λ (x : Argument). threeArguments (now (s .keyword)) x (s .m) (s .l) (s .reach)) (n .n .given .1))
+    ∙ sym (ap (λ (x : Argument). threeArguments (now (s .keyword)) x (s .m) (s .l) (s .ranges)) (n .n .given .1))
 
 returns-2 : tie.Need-returns-2
 unfolding threeArguments
 returns-2 c =
-    let s = c .before .before .before in
-    sym (ap (λ (x : Argument). threeArguments (now (s .args .keyword)) x (s .args .m) (s .args .l) (s .args .reach)) (c .enum-told .given .1))
+    let s = c .before .before .before .args in
+    sym (ap (λ (x : Argument). threeArguments (now (s .keyword)) x (s .m) (s .l) (s .ranges)) (c .enum-told .given .1))
 
 pub three-arguments-spec : {M : Type 1} → statement M
 three-arguments-spec = tie.close (tie.spec (λ c. search needs) (λ c κs. search needs) (λ c. search needs) returns returns-2)

@@ -12,20 +12,20 @@ unfolding twoArguments
 returns c =
     let n = c .before .before .before .before .before in
     let s = n .before .before .before .args in
-    c .with-two .ensures ∙ sym (λ i. twoArguments (now (s .keyword)) (n .n .given .1 i) (c .before .before .m .given .1 i) (s .reach))
+    c .with-two .ensures ∙ sym (λ i. twoArguments (now (s .keyword)) (n .n .given .1 i) (c .before .before .m .given .1 i) (s .ranges))
 
 returns-2 : tie.Need-returns-2
 unfolding twoArguments
 returns-2 c =
     let n = c .before .before .before in
     let s = n .before .before .before .args in
-    sym (λ i. twoArguments (now (s .keyword)) (n .n .given .1 i) (c .enum-told .given .1 i) (s .reach))
+    sym (λ i. twoArguments (now (s .keyword)) (n .n .given .1 i) (c .enum-told .given .1 i) (s .ranges))
 
 returns-3 : tie.Need-returns-3
 unfolding twoArguments
 returns-3 c =
     let s = c .before .before .before in
-    sym (ap (λ (x : Argument). twoArguments (now (s .args .keyword)) x (s .args .m) (s .args .reach)) (c .enum-told2 .given .1))
+    sym (ap (λ (x : Argument). twoArguments (now (s .args .keyword)) x (s .args .m) (s .args .ranges)) (c .enum-told2 .given .1))
 
 pub two-arguments-spec : {M : Type 1} → statement M
 two-arguments-spec =

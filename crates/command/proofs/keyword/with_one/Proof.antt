@@ -1,11 +1,11 @@
 -- `with_one` is the table of keywords, row by row.
-use Rattle.command.specs.Grammar.{look, withOne}
+use Rattle.command.specs.Grammar.{lookupKeyword, withOne}
 use borrow.Author.Needs.{needs}
 use Rattle.command.proofs.keyword.with_one.Statement.{statement}
 use Rattle.command.proofs.keyword.with_one.Tie as tie
 
 returns : tie.Need-returns
-unfolding withOne look
+unfolding withOne lookupKeyword
 returns c =
     let r7 = c .before .before .before in
     let r6 = r7 .before .before .before in

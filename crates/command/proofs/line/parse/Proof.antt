@@ -24,7 +24,8 @@ returns-2 : tie.Need-returns-2
 returns-2 c =
     let w = c .before in
     let s = w .before .before .before .args in
-    sym (line-bare (now (s .line)) (s .reach) (w .word-length .result) (w .before .if1 .left) (w .word-length .ensures .0) (c .if2 .taken))
+    sym
+    (line-bare (now (s .line)) (s .ranges) (w .length-before .result) (w .before .if1 .left) (w .length-before .ensures .0) (c .if2 .taken))
 
 slice-aggregate-keyword : tie.Need-slice-aggregate-keyword
 slice-aggregate-keyword c = sym (length-take-le _ _ (omega arith))
@@ -38,13 +39,13 @@ returns-3 c =
     let e1 = w1 .before in
     let s = e1 .before .before .args in
     let line = now (s .line) in
-    let k = w1 .word-length .result in
+    let k = w1 .length-before .result in
     let rest : List ℕ = take (length line - (k + 1)) (drop (k + 1) line) in
     let lr : length rest ≡ length line - (k + 1) = length-part line (k + 1) (length line - (k + 1)) (omega arith) in
     c .one-argument .ensures
-    ∙ ap (λ (a : Argument). oneArgument (take k line) a (s .reach)) (c .before .argument-of .ensures)
+    ∙ ap (λ (a : Argument). oneArgument (take k line) a (s .ranges)) (c .before .argument-of .ensures)
     ∙ sym
-    (line-one line (s .reach) k (e1 .if1 .left) (w1 .word-length .ensures .0) rest (rest-is line (k + 1)) (e2 .if2 .left) (omega arith))
+    (line-one line (s .ranges) k (e1 .if1 .left) (w1 .length-before .ensures .0) rest (rest-is line (k + 1)) (e2 .if2 .left) (omega arith))
 
 slice-aggregate-argument-of : tie.Need-slice-aggregate-argument-of
 slice-aggregate-argument-of c = sym (length-take-le _ _ (omega arith))
@@ -59,16 +60,16 @@ returns-4 c =
     let e1 = w1 .before in
     let s = e1 .before .before .args in
     let line = now (s .line) in
-    let k = w1 .word-length .result in
-    let m = w2 .word-length2 .result in
+    let k = w1 .length-before .result in
+    let m = w2 .length-before2 .result in
     let rest : List ℕ = take (length line - (k + 1)) (drop (k + 1) line) in
     let lr : length rest ≡ length line - (k + 1) = length-part line (k + 1) (length line - (k + 1)) (omega arith) in
     let last : List ℕ = take (length rest - (m + 1)) (drop (m + 1) rest) in
     c .parse-more .ensures
-    ∙ ap (λ (a : Argument). moreWords (take k line) a (lineWords last) (s .reach)) (a2 .argument-of2 .ensures)
+    ∙ ap (λ (a : Argument). moreWords (take k line) a (lineWords last) (s .ranges)) (a2 .argument-of2 .ensures)
     ∙ sym
-    (line-more line (s .reach) k (e1 .if1 .left) (w1 .word-length .ensures .0) rest (rest-is line (k + 1)) (e2 .if2 .left)
-    m last (w2 .word-length2 .ensures .0) (rest-is rest (m + 1)) (omega arith))
+    (line-more line (s .ranges) k (e1 .if1 .left) (w1 .length-before .ensures .0) rest (rest-is line (k + 1)) (e2 .if2 .left)
+    m last (w2 .length-before2 .ensures .0) (rest-is rest (m + 1)) (omega arith))
 
 pub parse-spec : {M : Type 1} → statement M
 parse-spec =

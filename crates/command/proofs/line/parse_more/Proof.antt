@@ -1,6 +1,6 @@
 -- `parse_more` cuts the words behind the first argument at their first space: two arguments or three.
 use Prim.Native.Nat.{ℕ, _+_, _-_}
-use mathlib.Core.Path.{_≡_, sym, ap, _∙_}
+use mathlib.Core.Path.{sym, ap, _∙_}
 use mathlib.Core.List.{List}
 use lib.ListN.{length, take, drop}
 use native.Mathlib.Omega.{arith}
@@ -18,8 +18,8 @@ returns c =
     let w = c .before .before .before .before in
     let s = w .before .before .args in
     c .two-arguments .ensures
-    ∙ ap (λ (a : Argument). twoArguments (now (s .keyword)) (s .first) a (s .reach)) (c .before .argument-of .ensures)
-    ∙ sym (more-one (now (s .keyword)) (s .first) (now (s .rest)) (s .reach) (omega arith))
+    ∙ ap (λ (a : Argument). twoArguments (now (s .keyword)) (s .first) a (s .ranges)) (c .before .argument-of .ensures)
+    ∙ sym (more-one (now (s .keyword)) (s .first) (now (s .rest)) (s .ranges) (omega arith))
 
 slice-aggregate-argument-of : tie.Need-slice-aggregate-argument-of
 slice-aggregate-argument-of c = sym (length-take-le _ _ (omega arith))
@@ -31,12 +31,12 @@ returns-2 c =
     let w = a2 .before .before .before in
     let s = w .before .before .before .args in
     let rest = now (s .rest) in
-    let n = w .word-length .result in
+    let n = w .length-before .result in
     let last : List ℕ = take (length rest - (n + 1)) (drop (n + 1) rest) in
     c .three-arguments .ensures
-    ∙ (λ i. threeArguments (now (s .keyword)) (s .first) (a2 .argument-of2 .ensures i) (a3 .argument-of3 .ensures i) (s .reach))
+    ∙ (λ i. threeArguments (now (s .keyword)) (s .first) (a2 .argument-of2 .ensures i) (a3 .argument-of3 .ensures i) (s .ranges))
     ∙ sym
-    (more-two (now (s .keyword)) (s .first) rest (s .reach) n last (w .word-length .ensures .0) (rest-is rest (n + 1)) (omega arith))
+    (more-two (now (s .keyword)) (s .first) rest (s .ranges) n last (w .length-before .ensures .0) (rest-is rest (n + 1)) (omega arith))
 
 pub parse-more-spec : {M : Type 1} → statement M
 parse-more-spec =

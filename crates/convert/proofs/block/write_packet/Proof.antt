@@ -5,8 +5,8 @@ use mathlib.Core.Path.{sym, ap, _∙_}
 use mathlib.Core.List.{List}
 use lib.ListN.{length}
 use denote.Ref.{now}
-use Rattle.ground.specs.Convert.{Converted, convertDone}
-use Rattle.ground.proofs.Converts.{done-unread}
+use Rattle.converter.specs.Convert.{Converted, convertDone}
+use Rattle.converter.proofs.Converts.{done-unread}
 use Rattle.decode.specs.Read.{readNumber}
 use Rattle.convert.specs.Block.{countedBy}
 use Rattle.convert.proofs.block.write_packet.Statement.{statement}

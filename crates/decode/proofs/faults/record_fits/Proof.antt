@@ -9,9 +9,17 @@ use denote.Ref.{now}
 use lib.Dec.{leb, ltb, eqb}
 use lib.ListN.{getD}
 use Rattle.wire.proofs.Lists.{decide}
+use Rattle.boxes.specs.Boxes.{boxCount, outOfBoundsBox}
 use Rattle.sample_record.specs.Record.{recordBox, recordGood}
 use Rattle.decode.proofs.faults.record_fits.Statement.{statement}
 use Rattle.decode.proofs.faults.record_fits.Tie as tie
+
+-- what a record of the first box is at least, and of the last box below
+abbrev least : ℕ
+least = 2 * outOfBoundsBox * 16777216
+
+abbrev end : ℕ
+end = 2 * (boxCount + 1) * 16777216
 
 module _ (a b c d : ℕ) (ha : a ≤ 255) (hb : b ≤ 255) (hc : c ≤ 255) (hd : d ≤ 255) where
   -- the four bytes as a number, the first or the last of them the highest
@@ -29,20 +37,20 @@ module _ (a b c d : ℕ) (ha : a ≤ 255) (hb : b ≤ 255) (hc : c ≤ 255) (hd 
       decide (eqb x 0) (λ t. eq-eqb y 0 (omega (arith, eqb-true x 0 t)) ∙ sym t)
       (λ f. ne-eqb y 0 (λ e. eqb-false x 0 f (omega (arith, e))) ∙ sym f)
 
-  same-least : leb 201326592 y ≡ leb 6 (d / 2)
+  same-least : leb least y ≡ leb outOfBoundsBox (d / 2)
   same-least =
-      decide (leb 6 (d / 2)) (λ t. le-leb 201326592 y (omega (arith, leb-true 6 (d / 2) t)) ∙ sym t)
-      (λ f. lt-leb 201326592 y (omega (arith, leb-false 6 (d / 2) f)) ∙ sym f)
+      decide (leb outOfBoundsBox (d / 2)) (λ t. le-leb least y (omega (arith, leb-true outOfBoundsBox (d / 2) t)) ∙ sym t)
+      (λ f. lt-leb least y (omega (arith, leb-false outOfBoundsBox (d / 2) f)) ∙ sym f)
 
-  same-most : ltb y 3925868544 ≡ leb (d / 2) 116
+  same-most : ltb y end ≡ leb (d / 2) boxCount
   same-most =
-      decide (leb (d / 2) 116) (λ t. lt-ltb y 3925868544 (omega (arith, leb-true (d / 2) 116 t)) ∙ sym t)
-      (λ f. le-ltb y 3925868544 (omega (arith, leb-false (d / 2) 116 f)) ∙ sym f)
+      decide (leb (d / 2) boxCount) (λ t. lt-ltb y end (omega (arith, leb-true (d / 2) boxCount t)) ∙ sym t)
+      (λ f. le-ltb y end (omega (arith, leb-false (d / 2) boxCount f)) ∙ sym f)
 
-  same-good : (eqb y 0 || (leb 201326592 y && ltb y 3925868544)) ≡ recordGood x
+  same-good : (eqb y 0 || (leb least y && ltb y end)) ≡ recordGood x
   same-good =
       (λ i. same-empty i || (same-least i && same-most i))
-      ∙ sym (ap (λ (n : ℕ). eqb x 0 || (leb 6 n && leb n 116)) box-last)
+      ∙ sym (ap (λ (n : ℕ). eqb x 0 || (leb outOfBoundsBox n && leb n boxCount)) box-last)
 
 returns : tie.Need-returns
 returns c =
@@ -51,7 +59,7 @@ returns c =
     let p = now (s .packet) in
     let byte : (n : ℕ) → getD p n 0 ≤ 255 = λ n. omega (arith, k .shared-slice-known .given n) in
     let at = s .at in
-    ap (λ (n : ℕ). eqb n 0 || (leb 201326592 n && ltb n 3925868544)) (c .mirrored .ensures)
+    ap (λ (n : ℕ). eqb n 0 || (leb least n && ltb n end)) (c .mirrored .ensures)
     ∙ same-good (getD p at 0) (getD p (at + 1) 0) (getD p (at + 2) 0) (getD p (at + 3) 0)
     (byte at) (byte (at + 1)) (byte (at + 2)) (byte (at + 3))
 

@@ -12,7 +12,7 @@ answer x = record { number = x .number; state = x .state }
 returns : tie.Need-returns
 unfolding answer
 returns c =
-    let x = c .before .before .before .before .before .before .before .before .before .before .before in
+    let x = (let k = c .before .before .before .before .before .before in k .before .before .before .before .before .before) in
     let e = x .close .ensures in
     let u = x .before .before .before .before in
     let t = sym (u .u32-at .ensures) in

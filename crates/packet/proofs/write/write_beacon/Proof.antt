@@ -8,7 +8,8 @@ use lib.ListN.{length}
 use denote.Ref.{now}
 use Rattle.wire.specs.Bytes.{zeros}
 use Rattle.wire.proofs.Bytes.{then}
-use Rattle.packet.specs.Layout.{bodyAt, codeBytes, beaconCount, beaconEnd, beaconUnused}
+use Rattle.boxes.specs.Boxes.{beaconCount}
+use Rattle.packet.specs.Layout.{bodyAt, codeBytes, beaconEnd, beaconUnused}
 use Rattle.rate_code.specs.Editions.{secondMark}
 use Rattle.packet.specs.Packet.{beaconApplication, packetOf, codes, beaconBody, beaconPacket}
 use Rattle.packet.proofs.Written.{length-codes, length-beacon-body, packet-written}

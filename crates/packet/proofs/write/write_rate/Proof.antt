@@ -7,7 +7,8 @@ use native.Mathlib.Omega.{arith}
 use lib.ListN.{length, length-append}
 use denote.Ref.{now}
 use Rattle.wire.proofs.Bytes.{then}
-use Rattle.packet.specs.Layout.{bodyAt, codeBytes, totalCount, rateCount, boxesAt, gapAt}
+use Rattle.boxes.specs.Boxes.{totalCount}
+use Rattle.packet.specs.Layout.{bodyAt, codeBytes, rateCount, boxesAt, gapAt}
 use Rattle.rate_code.specs.Editions.{secondMark}
 use Rattle.packet.specs.Packet.{rateApplication, packetOf, codes, settingsBytes, rateBody, ratePacket}
 use Rattle.packet.proofs.Written.{length-codes, length-rate-body, packet-written}

@@ -1,4 +1,4 @@
--- `close_number` is the one check of a close: the limits, the lengths and the slots.
+-- `close_number` is the one check of a close: that the interval can be ended, and the output's length.
 use Rattle.processor.specs.Close.{closeNumber}
 use borrow.Author.Needs.{needs}
 use Rattle.processor.proofs.close.close_number.Statement.{statement}
@@ -6,7 +6,10 @@ use Rattle.processor.proofs.close.close_number.Tie as tie
 
 returns : tie.Need-returns
 unfolding closeNumber
-returns c = simp (c .unless .ensures, c .before .all-good .ensures, c .before .before .within-limits .ensures)
+returns c =
+    let b = c .before in
+    let s = b .before in
+    simp (c .unless .ensures, b .span-bytes .ensures, s .close-span .ensures, s .before .endable .ensures)
 
 pub close-number-spec : {M : Type 1} → statement M
 close-number-spec =
@@ -14,6 +17,6 @@ close-number-spec =
     (tie.spec
     (λ c κs. search needs)
     (λ c κs. search needs)
-    (λ c. search needs)
+    (λ c κs. search needs)
     (λ c κs. search needs)
     returns)

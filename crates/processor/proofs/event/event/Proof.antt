@@ -2,7 +2,7 @@
 use mathlib.Core.Path.{sym, _∙_}
 use borrow.Author.Tests.{ne-eqb}
 use Rattle.processor.specs.Event.{eventDone}
-use Rattle.processor.proofs.CallLaws.{event-takes}
+use Rattle.take_event.proofs.EventLaws.{event-taken}
 use borrow.Author.Needs.{needs}
 use Rattle.processor.proofs.event.event.Statement.{statement}
 use Rattle.processor.proofs.event.event.Tie as tie
@@ -18,7 +18,7 @@ take-event-requires : tie.Need-take-event-requires
 take-event-requires c κs =
     let n = c .before .before in
     let s = n .before .before .before in
-    let t = event-takes (s .args .state) _ _ (s .args .event) (sym (n .event-number .ensures) ∙ c .before .if1 .left) in
+    let t = event-taken (s .args .state) _ _ (s .args .event) (sym (n .event-number .ensures) ∙ c .before .if1 .left) in
     ((t .tables-are, t .slots-are), (t .limits, (t .range, t .room)))
 
 returns-2 : tie.Need-returns-2

@@ -3,7 +3,7 @@ use borrow.Author.Needs.{needs}
 use mathlib.Core.Path.{sym, _∙_}
 use borrow.Author.Tests.{ne-eqb}
 use Rattle.processor.specs.Listing.{listingDone}
-use Rattle.processor.proofs.CallLaws.{listing-lists}
+use Rattle.processor.proofs.CallLaws.{listing-accepted}
 use Rattle.processor.proofs.listing.listing.Statement.{statement}
 use Rattle.processor.proofs.listing.listing.Tie as tie
 
@@ -18,7 +18,7 @@ write-listing-requires : tie.Need-write-listing-requires
 write-listing-requires c κs =
     let l = c .before in
     let s = l .before .before .before .before in
-    let k = listing-lists (s .args .state) (s .args .i) _ _ (sym (l .before .listing-number .ensures) ∙ l .if1 .left) in
+    let k = listing-accepted (s .args .state) (s .args .i) _ _ (sym (l .before .listing-number .ensures) ∙ l .if1 .left) in
     (k .out-is, k .tables-are, k .listed)
 
 returns-2 : tie.Need-returns-2

@@ -3,8 +3,9 @@ use mathlib.Core.Path.{sym, ap, _∙_}
 use borrow.Author.Tests.{not-true, not-false}
 use denote.Ref.{now}
 use lib.ListN.{length}
-use Rattle.processor.specs.Package.{isStaged, packageDone}
-use Rattle.processor.proofs.CallLaws.{Stages, package-stages}
+use Rattle.take_package.specs.Package.{isStaged}
+use Rattle.processor.specs.Package.{packageDone}
+use Rattle.take_package.proofs.PackageLaws.{PackageStaged, package-staged}
 use borrow.Author.Needs.{needs}
 use Rattle.processor.proofs.load_package.package.Statement.{statement}
 use Rattle.processor.proofs.load_package.package.Tie as tie
@@ -22,23 +23,23 @@ abbrev start : tie.Else1 → tie.Start
 start l = let n = l .before .before in (let k = n .before .before in k .before .before .before)
 
 staged-is : (l : tie.Else1)
-    → let a = start l .args in Stages (a .state) (now (a .bytes)) (length (now (a .staging))) (length (now (a .marks))) (length (now (a .echo)))
+    → let a = start l .args in PackageStaged (a .state) (now (a .bytes)) (length (now (a .staging))) (length (now (a .bitmap))) (length (now (a .echo)))
 staged-is l =
     let p = l .before in
     let n = p .before .package-number .ensures in
-    package-stages (start l .args .state) (now (start l .args .bytes)) _ _ _
+    package-staged (start l .args .state) (now (start l .args .bytes)) _ _ _
     (ap isStaged (sym n) ∙ sym (p .is-staged .ensures) ∙ not-false _ (l .if1 .left))
 
 echo-staged-requires : tie.Need-echo-staged-requires
 echo-staged-requires c κs =
     let k = staged-is (c .before) in
-    (k .echo-is, k .is-formed)
+    (k .lengths .echo-is, k .is-formed)
 
 stage-requires : tie.Need-stage-requires
 stage-requires c κs =
     let e = c .before .before .before .before in
     let k = staged-is (e .before .before) in
-    ((k .staging-is, k .marks-are), k .is-placeable)
+    ((k .lengths .staging-is, k .lengths .bitmap-is), k .is-placeable)
 
 returns-2 : tie.Need-returns-2
 unfolding packageDone

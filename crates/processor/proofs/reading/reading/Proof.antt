@@ -2,7 +2,7 @@
 use mathlib.Core.Path.{sym, _∙_}
 use borrow.Author.Tests.{ne-eqb}
 use Rattle.processor.specs.Reading.{readingDone}
-use Rattle.processor.proofs.CallLaws.{reading-takes}
+use Rattle.take_reading.proofs.ReadingLaws.{reading-taken}
 use borrow.Author.Needs.{needs}
 use Rattle.processor.proofs.reading.reading.Statement.{statement}
 use Rattle.processor.proofs.reading.reading.Tie as tie
@@ -12,7 +12,7 @@ unfolding readingDone
 returns c = simp (sym (c .before .reading-number .ensures), ne-eqb _ _ (c .if1 .taken))
 
 take-reading-requires : tie.Need-take-reading-requires
-take-reading-requires c κs = reading-takes (c .before .before .args .state) (sym (c .before .reading-number .ensures) ∙ c .if1 .left)
+take-reading-requires c κs = reading-taken (c .before .before .args .state) (sym (c .before .reading-number .ensures) ∙ c .if1 .left)
 
 returns-2 : tie.Need-returns-2
 unfolding readingDone

@@ -7,8 +7,12 @@ use Rattle.replay_calls.proofs.CallLaws.{
   close-leaves,
   package-leaves,
   listing-leaves,
+  state-leaves,
+  show-leaves,
+  slots-leave,
   other-leaves,
 }
+use Rattle.replay_calls.proofs.RecordLaws.{slots-long}
 use borrow.Author.Needs.{needs}
 use Rattle.replay_calls.proofs.calls.carry_out.Statement.{statement}
 use Rattle.replay_calls.proofs.calls.carry_out.Tie as tie
@@ -17,25 +21,37 @@ event-requires : tie.Need-event-requires
 event-requires c κs =
     let m = c .before .before .before .before in
     let s = m .before .before .before .before .before .before .before .before in
-    s .pre .0 .0 (m .match .keys1)
+    s .pre .0 .0 .0 (m .match .keys1)
 
 reading-requires : tie.Need-reading-requires
 reading-requires c κs =
     let m = c .before .before in
     let s = m .before .before .before .before .before .before .before .before in
-    s .pre .0 .1 (m .match .keys2)
+    s .pre .0 .0 .1 (m .match .keys2)
 
 close-requires : tie.Need-close-requires
 close-requires c κs =
     let m = c .before .before .before .before .before in
     let s = m .before .before .before .before .before .before .before .before in
-    s .pre .0 .2 (m .match .keys4)
+    s .pre .0 .0 .2 (m .match .keys4)
 
 listing-requires : tie.Need-listing-requires
 listing-requires c κs =
     let m = c .before .before .before in
     let s = m .before .before .before .before .before .before .before .before in
-    s .pre .1 (m .match .keys6)
+    s .pre .0 .1 (m .match .keys6)
+
+hand-in-requires : tie.Need-hand-in-requires
+hand-in-requires c κs =
+    let m = c .before .before in
+    let s = m .before .before .before .before .before .before .before .before in
+    s .pre .0 .3 (m .match .keys7)
+
+hand-in-slots-requires : tie.Need-hand-in-slots-requires
+hand-in-slots-requires c κs =
+    let m = c .before .before .before in
+    let s = m .before .before .before .before .before .before .before .before in
+    slots-long _ _ _ (m .match .keys9) (s .pre .1)
 
 returns : tie.Need-returns
 returns c =
@@ -78,8 +94,26 @@ returns-6 c =
 
 returns-7 : tie.Need-returns-7
 returns-7 c =
-    let r = c .match .rest .0 in
-    other-leaves _ _ _ _ _ _ _ _ _ (r .0 .0 .0 .0 .1, r .0 .0 .0 .1, r .0 .0 .1, r .0 .1, r .1) refl
+    let x = c .before .before in
+    let k = x .before .before .before .match .keys7 in
+    state-leaves _ _ _ _ _ _ _ _ _ k (x .hand-in .ensures)
+
+returns-8 : tie.Need-returns-8
+returns-8 c =
+    let k = c .before .before .before .before .before .match .keys8 in
+    show-leaves _ _ _ _ _ _ _ _ _ k refl
+
+returns-9 : tie.Need-returns-9
+returns-9 c =
+    let x = c .before .before .before .before in
+    let k = x .before .before .before .before .match .keys9 in
+    slots-leave _ _ _ _ _ _ _ _ _ _ k refl (x .hand-in-slots .ensures)
+
+returns-10 : tie.Need-returns-10
+returns-10 c =
+    let n = c .match .rest in
+    let r = n .0 .0 .0 .0 in
+    other-leaves _ _ _ _ _ _ _ _ _ (r .0 .0 .0 .0 .1, r .0 .0 .0 .1, r .0 .0 .1, r .0 .1, r .1, n .0 .0 .1, n .1) refl
 
 pub carry-out-spec : {M : Type 1} → statement M
 carry-out-spec =
@@ -91,6 +125,9 @@ carry-out-spec =
     close-requires
     (λ c κs. search needs)
     listing-requires
+    hand-in-requires
+    (λ c κs. search needs)
+    hand-in-slots-requires
     (λ c. search needs)
     (λ c. search needs)
     (λ c. search needs)
@@ -115,4 +152,11 @@ carry-out-spec =
     (λ c. search needs)
     (λ c. search needs)
     returns-6
-    returns-7)
+    (λ c. search needs)
+    returns-7
+    (λ c. search needs)
+    returns-8
+    (λ c. search needs)
+    (λ c. search needs)
+    returns-9
+    returns-10)

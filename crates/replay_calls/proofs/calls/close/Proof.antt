@@ -6,7 +6,7 @@ use Rattle.replay_calls.proofs.calls.close.Tie as tie
 
 returns : tie.Need-returns
 returns c =
-    let x = c .before .before .before .before .before .before .before .before .before .before .before .before in
+    let x = (let k = c .before .before .before .before .before .before in k .before .before .before .before .before .before .before) in
     let e = x .close .ensures in
     let t = sym (x .before .before .before .before .u32-at .ensures) in
     (rw t (λ j. e .0 j .state), (rw t (e .1 .0), rw t (e .1 .1 .0)))

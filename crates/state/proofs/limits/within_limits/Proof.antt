@@ -9,8 +9,24 @@ unfolding withinLimits
 returns c =
     let o = c .before in
     let s = o .before in
-    simp (c .addresses-within .ensures, o .within3 .ensures, s .within2 .ensures, s .before .within .ensures)
+    let r = s .before in
+    simp (
+      c .addresses-within .ensures,
+      o .within3 .ensures,
+      s .within2 .ensures,
+      r .ranges-of .ensures,
+      r .before .within .ensures,
+      r .before .before .numbers-of .ensures,
+    )
 
 pub within-limits-spec : {M : Type 1} → statement M
 within-limits-spec =
-    tie.close (tie.spec (λ c κs. search needs) (λ c κs. search needs) (λ c κs. search needs) (λ c κs. search needs) returns)
+    tie.close
+    (tie.spec
+    (λ c κs. search needs)
+    (λ c κs. search needs)
+    (λ c κs. search needs)
+    (λ c κs. search needs)
+    (λ c κs. search needs)
+    (λ c κs. search needs)
+    returns)

@@ -1,2 +1,0 @@
--- Laws of lines that came.
-pub mod ToldLaws

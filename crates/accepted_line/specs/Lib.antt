@@ -1,3 +1,0 @@
--- What the contracts of lines that came cite.
-pub mod Told
-pub mod Judged

@@ -1,0 +1,2 @@
+pub mod CommandListLaws
+pub mod RunLaws

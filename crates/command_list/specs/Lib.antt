@@ -1,0 +1,2 @@
+pub mod CommandList
+pub mod Run

@@ -1,0 +1,3 @@
+pub mod Recoded
+pub mod Reread
+pub mod Converts

@@ -1,0 +1,4 @@
+-- What the contracts of the image cite, and what is proved of it.
+pub mod Layout
+pub mod Image
+pub mod Fits

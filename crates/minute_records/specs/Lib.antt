@@ -1,2 +1,0 @@
--- What the contracts of minute's records cite.
-pub mod Record

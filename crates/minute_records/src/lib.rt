@@ -1,2 +1,0 @@
-// The records of minute.
-pub mod records;

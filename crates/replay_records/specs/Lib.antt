@@ -1,2 +1,0 @@
--- What the contracts of replay's records cite.
-pub mod Record

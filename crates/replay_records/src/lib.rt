@@ -1,2 +1,0 @@
-// The records of a list of calls.
-pub mod records;

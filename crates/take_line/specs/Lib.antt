@@ -1,0 +1,3 @@
+-- What the contracts of lines that came cite.
+pub mod Line
+pub mod Judged
