@@ -9,6 +9,12 @@ use borrow.Author.Needs.{needs}
 use Rattle.take_line.proofs.judge_staged.Statement.{statement}
 use Rattle.take_line.proofs.judge_staged.Tie as tie
 
+none-bad-requires : tie.Need-none-bad-requires
+none-bad-requires c κs = search needs
+
+sum-agrees-requires : tie.Need-sum-agrees-requires
+sum-agrees-requires c κs = search needs
+
 returns : tie.Need-returns
 returns c =
     let n = c .before in
@@ -41,10 +47,10 @@ pub judge-staged-spec : {M : Type 1} → statement M
 judge-staged-spec =
     tie.close
     (tie.spec
-    (λ c κs. search needs)
+    none-bad-requires
     returns
     (λ c κs. search needs)
-    (λ c κs. search needs)
+    sum-agrees-requires
     returns-2
     (λ c κs. search needs)
     returns-3)
