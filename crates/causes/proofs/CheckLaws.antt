@@ -7,7 +7,7 @@ use Prim.Native.Nat.{ℕ, _≤_}
 use native.Mathlib.Omega.{arith}
 use borrow.Author.Tests.{leb-true}
 use lib.Dec.{leb}
-use Rattle.causes.specs.Checks.{Check, numberBy, Passed, Applies, numbered, none, ascendingFrom}
+use Rattle.causes.specs.Checks.{Check, numberBy, Passed, Applies, numbered, none, ascendingBy, itself, LowestBy, Lowest}
 
 and-parts : (a b : Bool) → (a && b) ≡ true → (a ≡ true) × (b ≡ true)
 and-parts true b h = (refl, h)
@@ -61,16 +61,29 @@ number-applies (c ∷ cs) h = go (c .0) refl h (number-applies cs)
     go true q h ih = inr (ih h)
     go false q h ih = inl (q, refl)
 
--- where a number applies, the call's number is at most that
-pub number-lowest : (m n : ℕ) (cs : List Check) → ascendingFrom m cs ≡ true → Applies n cs → (m ≤ numberBy cs) × (numberBy cs ≤ n)
-number-lowest m n [] h a = absurd a
-number-lowest m n (c ∷ cs) h a =
-    let p = and-parts (leb m (c .1)) (ascendingFrom (c .1) cs) h in
-    go (c .0) refl (leb-true m (c .1) (p .0)) (number-lowest (c .1) n cs (p .1)) a
+-- where a number applies, the call's number is at most that, in an order in which the checks' numbers ascend
+pub number-lowest : (place : ℕ → ℕ) (m n : ℕ) (cs : List Check) → ascendingBy place m cs ≡ true → Applies n cs
+    → (m ≤ place (numberBy cs)) × (place (numberBy cs) ≤ place n)
+number-lowest place m n [] h a = absurd a
+number-lowest place m n (c ∷ cs) h a =
+    let p = and-parts (leb m (place (c .1))) (ascendingBy place (place (c .1)) cs) h in
+    go (c .0) refl (leb-true m (place (c .1)) (p .0)) (number-lowest place (place (c .1)) n cs (p .1)) a
   where
-    go : (b : Bool) → c .0 ≡ b → m ≤ c .1 → (Applies n cs → (c .1 ≤ numberBy cs) × (numberBy cs ≤ n))
-        → ((c .0 ≡ false) × (c .1 ≡ n)) ⊎ Applies n cs → (m ≤ cond b (numberBy cs) (c .1)) × (cond b (numberBy cs) (c .1) ≤ n)
+    go : (b : Bool) → c .0 ≡ b → m ≤ place (c .1) → (Applies n cs → (place (c .1) ≤ place (numberBy cs)) × (place (numberBy cs) ≤ place n))
+        → ((c .0 ≡ false) × (c .1 ≡ n)) ⊎ Applies n cs
+        → (m ≤ place (cond b (numberBy cs) (c .1))) × (place (cond b (numberBy cs) (c .1)) ≤ place n)
     go true q l ih (inl e) = absurd (false≢true (sym (e .0) ∙ q))
     go true q l ih (inr r) = let k = ih r in (omega arith, k .1)
-    go false q l ih (inl e) = (l, omega (arith, e .1))
+    go false q l ih (inl e) = (l, omega (arith, ap place (e .1)))
     go false q l ih (inr r) = let k = ih r in (l, omega arith)
+
+-- so the number of checks whose numbers ascend is 0 where all are passed, and otherwise the lowest that applies
+pub lowest-by : (place : ℕ → ℕ) (cs : List Check) → numbered cs ≡ true → ascendingBy place 0 cs ≡ true → LowestBy place cs (numberBy cs)
+lowest-by place cs f h = record {
+  carried-out = λ e. all-passed cs f e;
+  applies = λ ne. number-applies cs ne;
+  lowest = λ n a. number-lowest place 0 n cs h a .1;
+}
+
+pub lowest : (cs : List Check) → numbered cs ≡ true → ascendingBy itself 0 cs ≡ true → Lowest cs (numberBy cs)
+lowest cs f h = lowest-by itself cs f h

@@ -5,6 +5,7 @@ use mathlib.Core.List.{List, [], _∷_}
 use mathlib.Core.Logic.{_⊎_}
 use Prim.Native.Nat.{ℕ, _≤_}
 use lib.Dec.{leb}
+use Rattle.causes.specs.Causes.{carriedOut}
 
 -- a test that a call must pass, and the number of its cause, which applies where the test fails
 abbrev pub Check : Type 0
@@ -35,7 +36,24 @@ abbrev pub none : (ℕ → Bool) → List Check → Bool
 none f [] = true
 none f (c ∷ cs) = not (f (c .1)) && none f cs
 
--- none of the numbers is below n, nor below one before it: there the first number that applies is the lowest
-abbrev pub ascendingFrom : ℕ → List Check → Bool
-ascendingFrom n [] = true
-ascendingFrom n (c ∷ cs) = leb n (c .1) && ascendingFrom (c .1) cs
+-- where the numbers stand in an order by `place`, none is before m, nor before one that is tested earlier: there the first number that
+-- applies is the first of those that do
+abbrev pub ascendingBy : (place : ℕ → ℕ) → ℕ → List Check → Bool
+ascendingBy place m [] = true
+ascendingBy place m (c ∷ cs) = leb m (place (c .1)) && ascendingBy place (place (c .1)) cs
+
+-- the order of the numbers themselves
+abbrev pub itself : ℕ → ℕ
+itself n = n
+
+-- ---- "A call that is carried out answers 0; otherwise the lowest number that applies is given"
+
+-- 0 where every test is passed and nowhere else; any other number applies, and none that applies is before it. Numbers stand in the
+-- order by `place`
+pub record LowestBy (place : ℕ → ℕ) (cs : List Check) (number : ℕ) : Type 0 where
+  pub carried-out : number ≡ carriedOut → Passed cs
+  pub applies : (number ≡ carriedOut → ⊥) → Applies number cs
+  pub lowest : (n : ℕ) → Applies n cs → place number ≤ place n
+
+abbrev pub Lowest : List Check → (number : ℕ) → Type 0
+Lowest cs number = LowestBy itself cs number

@@ -10,6 +10,7 @@ use lib.ListN.{length, take, getD, set}
 use lib.Seq.{take-set-lt, take-set-le, getD-set-same, getD-set-other, getD-take, length-take-le}
 use borrow.Author.Tests.{eqb-true, ne-eqb}
 use Rattle.causes.specs.Causes.{noHeader, packetSum}
+use Rattle.causes.specs.Checks.{itself}
 use Rattle.causes.proofs.CheckLaws.{number-lowest}
 use Rattle.wire.specs.Bytes.{one, total, be16, be32, words}
 use Rattle.wire.specs.Lists.{EachBelow}
@@ -81,7 +82,7 @@ module _ (xs : List ℕ) (lx : length xs ≡ packetBytes) (bytes : EachBelow 256
 pub wrong-number : (xs : List ℕ) → sumGood xs ≡ false → (readNumber xs ≡ noHeader) ⊎ (readNumber xs ≡ packetSum)
 unfolding readNumber
 wrong-number xs e =
-    let r = number-lowest noHeader packetSum (readChecks xs) refl (inr (inl (e, refl))) in
+    let r = number-lowest itself noHeader packetSum (readChecks xs) refl (inr (inl (e, refl))) in
     ⊎-map sym (λ q. omega arith) (eq-or-lt-of-le (r .0))
 
 -- ---- written packets are lists of bytes

@@ -2,7 +2,7 @@
 use mathlib.Core.Path.{refl}
 use mathlib.Core.Bool.{_&&_}
 use lib.ListN.{length}
-use Rattle.causes.proofs.CheckLaws.{number-lowest}
+use Rattle.causes.proofs.CheckLaws.{lowest}
 use Rattle.command_list.specs.CommandList.{loadWaits}
 use Rattle.state.specs.Limits.{withinLimits}
 use Rattle.take_event.specs.Event.{eventLent, eventChecks, eventNumber}
@@ -17,16 +17,16 @@ use Rattle.processor.specs.Lowest.{LowestGiven}
 pub lowest-given : LowestGiven
 unfolding eventNumber readingNumber lineNumber packageCallNumber closeNumber listingNumber
 lowest-given = record {
-  of-event = λ s tables slots e n a.
-      number-lowest 1 n (eventChecks (withinLimits s && eventLent (s .capacity) tables slots) (s .interval .taken) e) refl a .1;
-  of-reading = λ s n a. number-lowest 1 n (readingChecks (withinLimits s) (s .interval .readings)) refl a .1;
-  of-line = λ s bytes staging bitmap echo n a.
-      number-lowest 1 n
-      (lineChecks (withinLimits s && lineLent (length staging) (length bitmap) echo) bytes (stateChecks s bytes staging bitmap)) refl a .1;
-  of-package = λ s p staging bitmap echo n a.
-      number-lowest 1 n
-      (packageCallChecks (withinLimits s && packageLent staging bitmap echo) (loadWaits (s .commands)) p (s .staging .next)) refl a .1;
-  of-close = λ s tables staging slots out n a.
-      number-lowest 1 n (closeChecks (endable s tables staging slots && outRight (s .capacity) out)) refl a .1;
-  of-listing = λ s i tables out n a. number-lowest 1 n (listingChecks (withinLimits s && listingLent tables out) i) refl a .1;
+  of-event = λ s tables slots e.
+      lowest (eventChecks (withinLimits s && eventLent (s .capacity) tables slots) (s .interval .taken) e) refl refl;
+  of-reading = λ s. lowest (readingChecks (withinLimits s) (s .interval .readings)) refl refl;
+  of-line = λ s bytes staging bitmap echo.
+      lowest
+      (lineChecks (withinLimits s && lineLent (length staging) (length bitmap) echo) bytes (stateChecks s bytes staging bitmap)) refl refl;
+  of-package = λ s p staging bitmap echo.
+      lowest
+      (packageCallChecks (withinLimits s && packageLent staging bitmap echo) (loadWaits (s .commands)) p (s .staging .next)) refl refl;
+  of-close = λ s tables staging slots out.
+      lowest (closeChecks (endable s tables staging slots && outRight (s .capacity) out)) refl refl;
+  of-listing = λ s i tables out. lowest (listingChecks (withinLimits s && listingLent tables out) i) refl refl;
 }

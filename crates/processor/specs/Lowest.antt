@@ -1,9 +1,9 @@
 -- The number of each call is the lowest that applies (document 01, "Causes and their numbers"). Assumes nothing.
 use mathlib.Core.Bool.{_&&_}
 use mathlib.Core.List.{List}
-use Prim.Native.Nat.{ℕ, _≤_}
+use Prim.Native.Nat.{ℕ}
 use lib.ListN.{length}
-use Rattle.causes.specs.Checks.{Check, Applies}
+use Rattle.causes.specs.Checks.{Lowest}
 use Rattle.sort.specs.declared.event.Event.{Event}
 use Rattle.command_list.specs.CommandList.{loadWaits}
 use Rattle.state.specs.declared.State.{State}
@@ -16,10 +16,7 @@ use Rattle.end_interval.specs.End.{endable}
 use Rattle.processor.specs.Close.{outRight, closeChecks, closeNumber}
 use Rattle.processor.specs.Listing.{listingLent, listingChecks, listingNumber}
 
--- "the lowest number that applies is given": of the checks, whichever other number applies is no lower
-abbrev pub Lowest : List Check → (number : ℕ) → Type 0
-Lowest cs number = (n : ℕ) → Applies n cs → number ≤ n
-
+-- "the lowest number that applies is given", by each of the six calls
 pub record LowestGiven : Type 0 where
   pub of-event : (s : State) (tables slots : ℕ) (e : Event)
       → Lowest (eventChecks (withinLimits s && eventLent (s .capacity) tables slots) (s .interval .taken) e) (eventNumber s tables slots e)
