@@ -1,12 +1,13 @@
 -- What is proved of the packets and their reader together. `readOf` and `recordsOf` are what the reader's two calls answer,
 -- `ratePacket`, `samplePacket` and `beaconPacket` what the three writers write, by their contracts. Assumes nothing.
-use Prim.Native.Nat.{ℕ, _+_, _<_}
+use Prim.Native.Nat.{ℕ, _+_, _≤_, _<_}
 use mathlib.Core.Path.{_≡_}
 use mathlib.Core.Logic.{_⊎_}
 use mathlib.Core.Bool.{true}
 use mathlib.Core.List.{List, [], _++_, map}
 use lib.ListN.{length}
 use Rattle.causes.specs.Causes.{carriedOut, noHeader, packetSum}
+use Rattle.causes.specs.Checks.{Lowest}
 use Rattle.wire.specs.Bytes.{be16, words, zeros}
 use Rattle.wire.specs.Lists.{EachBelow}
 use Rattle.wire.specs.Pieces.{runs, table, each}
@@ -20,7 +21,7 @@ use Rattle.rate_code.specs.Editions.{codeBy, leastBy}
 use Rattle.packet.specs.Layout.{packetBytes, rateCount, beaconUnused}
 use Rattle.packet.specs.Packet.{rateApplication, beaconApplication, applicationOfSample, packetOf, settingsBytes}
 use Rattle.packet.specs.Packet.{ratePacket, samplePacket, beaconPacket}
-use Rattle.decode.specs.Read.{markOf, codeAt, ratesOf, codesGood, sumGood}
+use Rattle.decode.specs.Read.{applicationOf, markOf, codeAt, ratesOf, codesGood, sumGood, readChecks}
 use Rattle.decode.specs.Damage.{OneByteOff}
 use Rattle.decode.specs.Limits.{lastSample, lastMark}
 use Rattle.decode.specs.Ranges.{StampFits, RateValues, SampleValues, BeaconValues}
@@ -139,3 +140,19 @@ abbrev pub BeaconDamageRefused : Type 0
 BeaconDamageRefused =
     (stamp : Stamp) (beacons ys : List ℕ) → StampFits lastMark stamp → BeaconValues beacons
     → OneByteOff (beaconPacket stamp beacons) ys → Refused ys
+
+-- ---- the number
+
+-- "otherwise the lowest number that applies is given"
+abbrev pub LowestRead : Type 0
+LowestRead = (xs : List ℕ) → Lowest (readChecks xs) (readOf xs .number)
+
+-- 11 for any bytes with another number than "rate (application number 605), samples 606 to 616, beacon 624"
+abbrev pub OtherNumber : Type 0
+OtherNumber =
+    (xs : List ℕ) → (applicationOf xs ≡ 605 → ⊥) → (applicationOf xs ≡ 624 → ⊥) → (606 ≤ applicationOf xs → applicationOf xs ≤ 616 → ⊥)
+    → (readOf xs ≡ refused noHeader) × (recordsOf xs ≡ [])
+
+-- so for a listing packet's: "another application number gets 11, as 594 does from the reader" (document 02, Point 1)
+abbrev pub ListingNotRead : Type 0
+ListingNotRead = (xs : List ℕ) → applicationOf xs ≡ 594 → (readOf xs ≡ refused noHeader) × (recordsOf xs ≡ [])
