@@ -2,7 +2,7 @@
 use mathlib.Core.Path.{_≡_, refl, sym, ap, _∙_}
 use mathlib.Core.Bool.{Bool, true, false, not, cond, false≢true}
 use mathlib.Core.List.{List, [], _∷_, _++_}
-use Prim.Native.Nat.{ℕ, _+_, _*_, _≤_, _<_}
+use Prim.Native.Nat.{ℕ, _+_, _*_, _≤_}
 use native.Mathlib.Omega.{arith}
 use lib.Dec.{eqb}
 use lib.ListN.{length, take, set}
@@ -12,11 +12,9 @@ use Rattle.causes.specs.Checks.{Check, numberBy, Passed}
 use Rattle.causes.proofs.CheckLaws.{all-passed, passed-first, number-before, number-behind}
 use Rattle.wire.specs.Lists.{EachBelow}
 use Rattle.wire.proofs.Lists.{decide, and-left, and-right}
-use Rattle.wire.proofs.Pieces.{each-at, each-all, each-start, each-some, each-fails}
-use Rattle.rate_code.specs.Rate.{countLimit, rateCode}
+use Rattle.wire.proofs.Pieces.{each-at, each-all, each-start}
 use Rattle.rate_code.specs.Editions.{firstMark, convertedMark, isFirst, exactBy}
-use Rattle.rate_code.proofs.Codes.{code-valid}
-use Rattle.rate_code.proofs.EditionLaws.{by-below, own-exact, second-exact}
+use Rattle.rate_code.proofs.EditionLaws.{own-exact, second-exact}
 use Rattle.packet.specs.Layout.{packetBytes, bodyAt, frameAt, markAt, sumAt, codeBytes}
 use Rattle.packet.specs.Packet.{summed}
 use Rattle.decode.specs.declared.kind.Kind.{Kind}
@@ -27,7 +25,6 @@ use Rattle.decode.proofs.Reading.{rate-accepted, beacon-accepted, rate-codes, b
 use Rattle.ground.specs.Ground.{contents, readOf}
 use Rattle.converter.specs.Convert.{ratesIn, rateCountOf, recoded, convertible, ratesExact, convertChecks, convertNumber, Converted, convertDone}
 use Rattle.converter.specs.ConvertTheorems.{withMark, ThereAndBack, BackAndThere, ConvertedRead}
-use Rattle.converter.specs.ConvertTheorems.{NoFirst, SeventeenWhen, SeventeenAfter, AlwaysThere, NeverThere}
 use Rattle.ground.proofs.Answers.{read-accepted}
 use Rattle.converter.proofs.Recoded.{rates-fit, sum-recoded, mark-recoded, rate-recoded, twice, unchanged}
 use Rattle.converter.proofs.Reread.{application-same, header-same, rate-good, rate-same, beacon-good, beacon-same}
@@ -200,7 +197,7 @@ module _ (wanted : ℕ) (xs out : List ℕ) (l : length out ≡ packetBytes) (ac
   done-inexact h x =
       done-refused wanted xs out noFirstCode (number-accepted wanted (length out) xs l acc ∙ simp (h, x)) (λ e. omega (arith, e))
 
-number-is : (wanted : ℕ) (xs out : List ℕ) → convertDone wanted xs out .number ≡ convertNumber wanted (length out) xs
+pub number-is : (wanted : ℕ) (xs out : List ℕ) → convertDone wanted xs out .number ≡ convertNumber wanted (length out) xs
 unfolding convertDone
 number-is wanted xs out = refl
 
@@ -297,54 +294,3 @@ pub back-and-there : BackAndThere
 back-and-there xs out out′ bytes l e =
     let t = after firstMark convertedMark xs out out′ (omega arith) refl bytes l e in
     (t, λ m. ap (λ (d : Converted). d .out) t ∙ kept-whole firstMark convertedMark xs out e m)
-
--- ---- 17
-
--- a count that the first edition does not keep whole has no code there, and the other way round
-none-inexact : (n : ℕ) → NoFirst n → n < countLimit → exactBy firstMark n ≡ false
-none-inexact n h l =
-    decide (exactBy firstMark n) (λ q. absurd (h (rateCode n) (code-valid n l) (eqb-true _ _ q))) (λ q. q)
-
-inexact-none : (n : ℕ) → exactBy firstMark n ≡ false → NoFirst n
-inexact-none n q c h e = false≢true (sym q ∙ ap (exactBy firstMark) (sym e) ∙ own-exact firstMark firstMark c refl h)
-
-rate-below : (xs : List ℕ) (n i : ℕ) → codesGood n xs ≡ true → i < n → rateAt xs i < countLimit
-unfolding codesGood
-rate-below xs n i g l = by-below (markOf xs) (codeAt xs i) (each-at _ n i l g)
-
-pub seventeen-when : SeventeenWhen
-unfolding ratesExact
-seventeen-when xs out l acc right =
-    let n : ℕ = rateCountOf xs in
-    let good = rates-good xs acc in (
-      λ e.
-          let t = seventeen firstMark (length out) xs (sym (number-is firstMark xs out) ∙ e) in
-          let s = each-some (λ i. exactBy firstMark (rateAt xs i)) n (t .inexact) in
-          (s .0, s .1, inexact-none (rateAt xs (s .0)) (s .2)),
-      λ s.
-          let i = s .0 in
-          let f = none-inexact (rateAt xs i) (s .2) (rate-below xs n i good (s .1)) in
-          let t : ratesExact firstMark n xs ≡ false = each-fails (λ j. exactBy firstMark (rateAt xs j)) n i (s .1) f in
-          number-is firstMark xs out ∙ number-accepted firstMark (length out) xs l acc ∙ simp (right, t),
-    )
-
-pub seventeen-after : SeventeenAfter
-seventeen-after xs out e =
-    let t = seventeen firstMark (length out) xs (sym (number-is firstMark xs out) ∙ e) in
-    (t .out-is, t .accepted, t .right)
-
--- ---- the way there
-
-there : (xs : List ℕ) → readNumber xs ≡ 0 → convertible convertedMark xs ≡ true → ratesExact convertedMark (rateCountOf xs) xs ≡ true
-there xs acc right =
-    exact-there convertedMark (rateCountOf xs) xs refl (other-edition convertedMark xs right) (rates-good xs acc)
-
-pub always-there : AlwaysThere
-always-there xs out l acc right =
-    number-is convertedMark xs out
-    ∙ number-passes convertedMark (length out) xs (record { out-is = l; accepted = acc; right = right; exact = there xs acc right })
-
-pub never-there : NeverThere
-never-there xs out e =
-    let t = seventeen convertedMark (length out) xs (sym (number-is convertedMark xs out) ∙ e) in
-    false≢true (sym (t .inexact) ∙ there xs (t .accepted) (t .right))

@@ -1,3 +1,4 @@
 pub mod Recoded
 pub mod Reread
 pub mod Converts
+pub mod When

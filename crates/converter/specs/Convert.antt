@@ -40,7 +40,7 @@ unfoldable pub convertible : (wanted : ℕ) → List ℕ → Bool
 convertible wanted xs =
     not (eqb (rateCountOf xs) 0) && cond (isFirst wanted) (not (isFirst (markOf xs))) (isFirst (markOf xs))
 
--- 17: each rate's least count is that of a code in the edition wanted; to the second that is always so (`AlwaysThere` in
+-- 17: each rate's least count is that of a code in the edition wanted; to the second that is always so (`SecondWhen` in
 -- ConvertTheorems.antt)
 unfoldable pub ratesExact : (wanted n : ℕ) → List ℕ → Bool
 ratesExact wanted n xs = each n (λ i. exactBy wanted (rateAt xs i))
