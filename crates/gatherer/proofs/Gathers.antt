@@ -3,12 +3,14 @@ use mathlib.Core.Path.{_≡_, refl, sym, ap, _∙_}
 use mathlib.Core.Logic.{_⊎_, inl, inr, ⊎-elim}
 use mathlib.Core.Bool.{Bool, true, false, not, _&&_, _||_, false≢true}
 use mathlib.Core.List.{List, [], _∷_}
-use Prim.Native.Nat.{ℕ, _+_, _-_, _*_, _/_, _≤_, _<_}
+use Prim.Native.Nat.{ℕ, zero, suc, _+_, _-_, _*_, _/_, _≤_, _<_}
 use native.Mathlib.Omega.{arith}
+use native.Mathlib.Nat.{eq-or-lt-of-le}
 use lib.Dec.{eqb, ltb}
 use lib.ListN.{length, take, drop, getD, set, replicate, length-take, length-set, length-replicate, getD-replicate}
 use lib.Seq.{getD-set-same, getD-set-other, getD-take, getD-drop, ext-getD}
-use borrow.Author.Tests.{eqb-true, eqb-false, eq-eqb, ltb-true, ltb-false}
+use borrow.Author.Tests.{eqb-true, eqb-false, eq-eqb, ltb-true, ltb-false, not-false}
+use Rattle.wire.specs.Bits.{bitOf}
 use Rattle.wire.specs.Bytes.{put}
 use Rattle.wire.specs.Pieces.{countOf}
 use Rattle.wire.proofs.Bytes.{length-put, put-inside, put-before, put-behind, length-part}
@@ -23,7 +25,7 @@ use Rattle.listing_packet.proofs.Listed.{listing-accepted, listing-place, listi
 use Rattle.gatherer.specs.declared.Gathered.{Gathered}
 use Rattle.gatherer.specs.Gather.{noneGathered, missingOf, withPacket, gatherDone}
 use Rattle.gatherer.specs.GatherTheorems.{Gatherer, given, givenAll, freshGatherer, ListingOf, NoneOther, Among, TableGathered}
-use Rattle.gatherer.specs.GatherTheorems.{hasCome, MissingCounted}
+use Rattle.gatherer.specs.GatherTheorems.{NoneMissing, hasCome, MissingCounted}
 
 -- ---- one packet
 
@@ -189,17 +191,37 @@ module _ (T : List ℕ) (lT : length T ≡ tableBytes) where
       rw (eq-eqb _ _ n, eq-eqb _ _ q)
   among-come i h (p ∷ ps) (inr m) = rw (among-come i h ps m) (or-true (eqb (gatherNumber tableBytes p) 0 && eqb (addressIn p) (addressOf i)))
 
+-- what a fresh gatherer has of the table once all 250 have come
+whole : (T buffer : List ℕ) (ps : List (List ℕ)) → length T ≡ tableBytes → length buffer ≡ tableBytes → NoneOther T ps
+    → let g = givenAll (freshGatherer buffer) ps in
+    ((i : ℕ) → i < listingPackets → getD (g .gathered .came) i false ≡ true) → g .tables ≡ T
+whole T buffer ps lT lb none come =
+    let g : Gatherer = givenAll (freshGatherer buffer) ps in
+    let start : Agrees T lT (freshGatherer buffer) =
+    λ k l c. absurd (false≢true (sym (getD-replicate listingPackets (k / pieceBytes) false false (omega arith)) ∙ c)) in
+    let a = agrees-all T lT (freshGatherer buffer) ps lb none start in
+    ext-getD 0 (g .tables) T (a .0 ∙ sym lT) (λ k l.
+    let q : k < tableBytes = omega (arith, a .0) in
+    a .1 k q (come (k / pieceBytes) (omega arith)))
+
 pub table-gathered : TableGathered
 unfolding missingOf
 table-gathered T buffer ps lT lb none among =
     let g : Gatherer = givenAll (freshGatherer buffer) ps in
     let come : (i : ℕ) → i < listingPackets → getD (g .gathered .came) i false ≡ true =
     λ i l. came-fresh buffer ps i l ∙ ap (λ (n : ℕ). hasCome n i ps) lb ∙ among-come T lT i l ps (among i l) in
-    let start : Agrees T lT (freshGatherer buffer) =
-    λ k l c. absurd (false≢true (sym (getD-replicate listingPackets (k / pieceBytes) false false (omega arith)) ∙ c)) in
-    let a = agrees-all T lT (freshGatherer buffer) ps lb none start in (
-      ext-getD 0 (g .tables) T (a .0 ∙ sym lT) (λ k l.
-          let q : k < tableBytes = omega (arith, a .0) in
-          a .1 k q (come (k / pieceBytes) (omega arith))),
-      count-same listingPackets _ _ (λ i l. ap not (come i l)) ∙ count-none listingPackets,
-    )
+    (whole T buffer ps lT lb none come, count-same listingPackets _ _ (λ i l. ap not (come i l)) ∙ count-none listingPackets)
+
+-- where none passes the test, each fails it
+none-counted : (p : ℕ → Bool) (n : ℕ) → countOf n p ≡ 0 → (i : ℕ) → i < n → p i ≡ false
+unfolding countOf
+none-counted p zero e i l = absurd (omega arith)
+none-counted p (suc n) e i l =
+    let f : p n ≡ false = decide (p n) (λ q. absurd (omega (arith, e, ap bitOf q))) (λ q. q) in
+    let k′ : i ≤ n = omega arith in
+    ⊎-elim (λ (k : i ≡ n). rw k f) (λ (k : i < n). none-counted p n (omega arith) i k) (eq-or-lt-of-le k′)
+
+pub none-missing : NoneMissing
+unfolding missingOf
+none-missing T buffer ps lT lb none e =
+    whole T buffer ps lT lb none (λ i l. not-false _ (none-counted _ listingPackets e i l))

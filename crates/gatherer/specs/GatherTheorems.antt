@@ -1,19 +1,21 @@
 -- What is proved of the gatherer (document 02, Point 1). `gatherDone` is what its call does, `listingPacket` what the call `listing`
 -- writes, by their contracts. Assumes nothing.
-use Prim.Native.Nat.{ℕ, _<_}
+use Prim.Native.Nat.{ℕ, _+_, _*_, _<_}
 use mathlib.Core.Path.{_≡_}
 use mathlib.Core.Logic.{_⊎_}
-use mathlib.Core.Bool.{Bool, true, false, not, _&&_, _||_}
+use mathlib.Core.Bool.{Bool, true, false, not, cond, _&&_, _||_}
 use mathlib.Core.List.{List, [], _∷_}
 use lib.Dec.{eqb}
 use lib.ListN.{length}
-use Rattle.causes.specs.Causes.{carriedOut, noHeader, packetSum}
+use Rattle.causes.specs.Causes.{carriedOut, noHeader, packetSum, notListed}
+use Rattle.causes.specs.Checks.{LowestBy}
 use Rattle.wire.specs.Lists.{EachBelow}
 use Rattle.wire.specs.Pieces.{countOf}
 use Rattle.tables.specs.Tables.{tableBytes}
 use Rattle.packet.specs.Layout.{packetBytes}
-use Rattle.decode.specs.Read.{sumGood, readNumber}
-use Rattle.listing_packet.specs.Listing.{listingPackets, addressOf, addressIn, listingPacket, gatherNumber}
+use Rattle.decode.specs.Read.{applicationOf, sumGood}
+use Rattle.listing_packet.specs.Listing.{listingApplication, listingPackets, addressOf, addressIn, listingPacket}
+use Rattle.listing_packet.specs.Listing.{gatherChecks, gatherNumber}
 use Rattle.gatherer.specs.declared.Gathered.{Gathered}
 use Rattle.gatherer.specs.Gather.{noneGathered, missingOf, gatherDone}
 use Rattle.decode.specs.Damage.{OneByteOff}
@@ -66,6 +68,14 @@ TableGathered =
     → NoneOther tables packets → ((i : ℕ) → i < listingPackets → Among tables i packets)
     → let g = givenAll (freshGatherer buffer) packets in (g .tables ≡ tables) × (missingOf (g .gathered) ≡ 0)
 
+-- 0 missing says as much: if only packets of this table were taken, of whatever frames and times, in whatever order and with repeats,
+-- refused ones between them, and none is missing, the buffer equals the table
+abbrev pub NoneMissing : Type 0
+NoneMissing =
+    (tables buffer : List ℕ) (packets : List (List ℕ)) → length tables ≡ tableBytes → length buffer ≡ tableBytes
+    → NoneOther tables packets
+    → let g = givenAll (freshGatherer buffer) packets in missingOf (g .gathered) ≡ 0 → g .tables ≡ tables
+
 -- ---- what is missing
 
 -- some packet of the list that is answered 0, by a gatherer with a buffer of n bytes, has the address of packet i
@@ -95,10 +105,20 @@ ListingDamageRefused =
     → EachBelow 256 tables → OneByteOff (listingPacket frame time i tables) ys
     → (gatherNumber tableBytes ys ≡ noHeader) ⊎ (gatherNumber tableBytes ys ≡ packetSum)
 
--- ---- the other reader
+-- ---- the number
 
--- "another application number gets 11, as 594 does from the reader"
-abbrev pub ListingNotRead : Type 0
-ListingNotRead =
-    (frame time i : ℕ) (tables : List ℕ) → i < listingPackets → length tables ≡ tableBytes
-    → readNumber (listingPacket frame time i tables) ≡ noHeader
+-- "another application number gets 11": any bytes, and nothing changes
+abbrev pub OtherNotGathered : Type 0
+OtherNotGathered =
+    (g : Gathered) (packet tables : List ℕ) → length tables ≡ tableBytes → (applicationOf packet ≡ listingApplication → ⊥)
+    → gatherDone g packet tables ≡ record { answer = record { number = noHeader; gathered = g }; tables = tables }
+
+-- where a number stands in their order: "14 .., after 12 and before 13"
+abbrev pub gatherPlace : (number : ℕ) → ℕ
+gatherPlace number = cond (eqb number notListed) (2 * packetSum + 1) (2 * number)
+
+-- "otherwise the lowest number that applies is given", in that order
+abbrev pub LowestGathered : Type 0
+LowestGathered =
+    (g : Gathered) (packet tables : List ℕ)
+    → LowestBy gatherPlace (gatherChecks (length tables) packet) (gatherDone g packet tables .answer .number)
