@@ -73,8 +73,7 @@ TableGathered =
 abbrev pub NoneMissing : Type 0
 NoneMissing =
     (tables buffer : List ℕ) (packets : List (List ℕ)) → length tables ≡ tableBytes → length buffer ≡ tableBytes
-    → NoneOther tables packets
-    → let g = givenAll (freshGatherer buffer) packets in missingOf (g .gathered) ≡ 0 → g .tables ≡ tables
+    → NoneOther tables packets → let g = givenAll (freshGatherer buffer) packets in missingOf (g .gathered) ≡ 0 → g .tables ≡ tables
 
 -- ---- what is missing
 

@@ -8,7 +8,6 @@ use lib.Dec.{leb, eqb}
 use lib.ListN.{length}
 use borrow.Author.Tests.{ne-eqb, leb-true}
 use Rattle.causes.specs.Causes.{noHeader}
-use Rattle.causes.specs.Checks.{Lowest}
 use Rattle.causes.proofs.CheckLaws.{lowest}
 use Rattle.wire.proofs.Lists.{and-false, and-left, and-right, decide}
 use Rattle.packet.specs.Layout.{packetBytes}
@@ -21,12 +20,9 @@ use Rattle.ground.specs.Ground.{refused, readOf}
 use Rattle.ground.specs.Theorems.{LowestRead, OtherNumber, ListingNotRead}
 use Rattle.ground.proofs.Answers.{read-refused, no-records, number-read}
 
-lowest-number : (xs : List ℕ) → Lowest (readChecks xs) (readNumber xs)
-unfolding readNumber
-lowest-number xs = lowest (readChecks xs) refl refl
-
 pub lowest-read : LowestRead
-lowest-read xs = rw (number-read xs) (lowest-number xs)
+unfolding readNumber
+lowest-read xs = rw (number-read xs) (lowest (readChecks xs) refl refl)
 
 -- no kind has the number
 no-kind : (a : ℕ) → (a ≡ 605 → ⊥) → (a ≡ 624 → ⊥) → (606 ≤ a → a ≤ 616 → ⊥) → kindOf a ≡ None

@@ -9,7 +9,7 @@ use Rattle.rate_code.specs.Second.{secondCode, secondLeast}
 use Rattle.rate_code.specs.Editions.{isFirst, codeBy, leastBy, validBy, exactBy}
 use Rattle.rate_code.proofs.Codes.{code-fits, code-valid, least-le, code-again, least-below, valid-again}
 use Rattle.rate_code.proofs.SecondCodes.{second-below, second-fits, second-valid, second-le, second-again, valid-below}
-use Rattle.rate_code.proofs.SecondCodes.{second-least-below, first-exact}
+use Rattle.rate_code.proofs.SecondCodes.{second-least-below, first-exact, first-valid}
 
 module _ (mark n : ℕ) (h : n < countLimit) where
   -- a code fits 16 bits
@@ -58,3 +58,7 @@ own-exact a mark c e h =
 -- and the second those of the first
 pub second-exact : (a mark c : ℕ) → isFirst a ≡ false → isFirst mark ≡ true → validBy mark c ≡ true → exactBy a (leastBy mark c) ≡ true
 second-exact a mark c f m h = rw (f, m) (eq-eqb _ _ (first-exact c (rw m at h)))
+
+-- and takes every code that the first does
+pub second-takes : (a mark c : ℕ) → isFirst a ≡ false → validBy mark c ≡ true → validBy a c ≡ true
+second-takes a mark c f h = rw f (decide (isFirst mark) (λ q. first-valid c (rw q at h)) (λ q. rw q at h))

@@ -238,3 +238,8 @@ first-exact c h =
     let z : s ≡ 0 = omega (arith, ltb-false 0 s p) in
     let e : q * 2 ^ s ≡ q = ap (λ (k : ℕ). q * 2 ^ k) z ∙ omega arith in
     rw (e, second-low q l) (least-low q l))
+
+-- and each of its valid codes is a valid one there, with another least count
+pub first-valid : (c : ℕ) → codeValid c ≡ true → secondValid c ≡ true
+unfolding secondValid
+first-valid c h = lt-ltb c 0xD000 (omega (arith, parts c h .small))
