@@ -6,7 +6,7 @@ ghost use Rattle.packet.specs.Layout.{packetBytes};
 ghost use Rattle.convert.specs.Block.{written, counted, writtenAll, countedAll};
 use crate::counts::Counts;
 use crate::counts::counted;
-use converter::convert_accepted;
+use converter::convert;
 use packet::layout::PACKET_BYTES;
 use wire::write::put_bytes;
 
@@ -16,12 +16,8 @@ fn write_packet(wanted: u8, packet: &[u8], out: &mut [u8], counts: Counts) -> Co
     ensures out { λ r. ⌜ now (out .exit) ≡ written wanted (now (packet .entry)) ⌝ }
     ensures counts { λ r. ⌜ r ≡ counted wanted counts (now (packet .entry)) ⌝ }
 {
-    let read = decode::faults::number(packet);
-    if read != causes::CARRIED_OUT {
-        return counted(counts, read, read);
-    }
-    let number = convert_accepted(wanted, packet, out);
-    counted(counts, read, number)
+    let conversion = convert(wanted, packet, out);
+    counted(counts, conversion.read, conversion.number)
 }
 
 // Writes n packets, and counts them.

@@ -1,4 +1,4 @@
-// Converting a rate or beacon packet from one edition of the rate code to the other: two calls that take any bytes.
+// Converting a rate or beacon packet from one edition of the rate code to the other: calls that take any bytes.
 ghost use mathlib.Core.Path.{_≡_};
 ghost use mathlib.Core.Bool.{true};
 ghost use Prim.Native.Nat.{_+_, _*_, _≤_};
@@ -22,6 +22,12 @@ use rate_code::editions::FIRST_MARK;
 use wire::read::u16_at;
 use wire::write::put_bytes;
 use wire::write::put_u16;
+
+// What is said of any bytes: the number with which the reader takes or refuses them, and that of the conversion.
+pub struct Conversion {
+    pub read: u8,
+    pub number: u8,
+}
 
 // How many rates a packet of the kind has.
 fn rates_in(kind: Kind) -> usize
@@ -108,7 +114,7 @@ fn recode(wanted: u8, packet: &[u8], n: usize, out: &mut [u8])
 }
 
 // Converts a packet that the reader takes.
-pub fn convert_accepted(wanted: u8, packet: &[u8], out: &mut [u8]) -> u8
+fn convert_accepted(wanted: u8, packet: &[u8], out: &mut [u8]) -> u8
     requires { ⌜ (readNumber (now packet) ≡ carriedOut) × (length (now out) ≡ packetBytes) ⌝ }
     ensures number { λ r. ⌜ r ≡ convertDone wanted (now (packet .entry)) (now (out .entry)) .number ⌝ }
     ensures out { λ r. ⌜ now (out .exit) ≡ convertDone wanted (now (packet .entry)) (now (out .entry)) .out ⌝ }
@@ -125,18 +131,23 @@ pub fn convert_accepted(wanted: u8, packet: &[u8], out: &mut [u8]) -> u8
 }
 
 // Converts any bytes to the edition of the mark wanted.
-fn convert(wanted: u8, packet: &[u8], out: &mut [u8]) -> u8
-    ensures number { λ r. ⌜ r ≡ convertDone wanted (now (packet .entry)) (now (out .entry)) .number ⌝ }
+pub fn convert(wanted: u8, packet: &[u8], out: &mut [u8]) -> Conversion
+    ensures read { λ r. ⌜ r .read ≡ readNumber (now (packet .entry)) ⌝ }
+    ensures number { λ r. ⌜ r .number ≡ convertDone wanted (now (packet .entry)) (now (out .entry)) .number ⌝ }
     ensures out { λ r. ⌜ now (out .exit) ≡ convertDone wanted (now (packet .entry)) (now (out .entry)) .out ⌝ }
 {
+    let read = decode::faults::number(packet);
     if out.len() != layout::PACKET_BYTES {
-        return causes::BUFFER_OR_STATE;
+        return Conversion {
+            read,
+            number: causes::BUFFER_OR_STATE,
+        };
     }
-    let number = decode::faults::number(packet);
-    if number != causes::CARRIED_OUT {
-        return number;
+    if read != causes::CARRIED_OUT {
+        return Conversion { read, number: read };
     }
-    convert_accepted(wanted, packet, out)
+    let number = convert_accepted(wanted, packet, out);
+    Conversion { read, number }
 }
 
 // Any bytes: a rate or beacon packet of the first edition is written in the second.
@@ -144,7 +155,8 @@ pub fn to_second(packet: &[u8], out: &mut [u8]) -> u8
     ensures number { λ r. ⌜ r ≡ toSecond (now (packet .entry)) (now (out .entry)) .number ⌝ }
     ensures out { λ r. ⌜ now (out .exit) ≡ toSecond (now (packet .entry)) (now (out .entry)) .out ⌝ }
 {
-    convert(CONVERTED_MARK, packet, out)
+    let conversion = convert(CONVERTED_MARK, packet, out);
+    conversion.number
 }
 
 // Any bytes: a rate or beacon packet of the second edition is written in the first, where that has all its rates.
@@ -152,5 +164,6 @@ pub fn to_first(packet: &[u8], out: &mut [u8]) -> u8
     ensures number { λ r. ⌜ r ≡ toFirst (now (packet .entry)) (now (out .entry)) .number ⌝ }
     ensures out { λ r. ⌜ now (out .exit) ≡ toFirst (now (packet .entry)) (now (out .entry)) .out ⌝ }
 {
-    convert(FIRST_MARK, packet, out)
+    let conversion = convert(FIRST_MARK, packet, out);
+    conversion.number
 }
