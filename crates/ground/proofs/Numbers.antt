@@ -1,6 +1,7 @@
 -- The reader's number is the lowest that applies, and 11 for every application number but those of the three kinds. Assumes nothing.
-use mathlib.Core.Path.{_≡_, refl, sym, ap, _∙_}
-use mathlib.Core.Bool.{false, _&&_}
+use mathlib.Core.Path.{_≡_, refl, sym, ap, subst, _∙_}
+use mathlib.Core.Logic.{_⊎_, inl, inr}
+use mathlib.Core.Bool.{true, _&&_, false≢true}
 use mathlib.Core.List.{List}
 use Prim.Native.Nat.{ℕ, _≤_}
 use native.Mathlib.Omega.{arith}
@@ -13,16 +14,38 @@ use Rattle.wire.proofs.Lists.{and-false, and-left, and-right, decide}
 use Rattle.packet.specs.Layout.{packetBytes}
 use Rattle.packet.specs.Packet.{sampleApplication, applicationOfSample}
 use Rattle.decode.specs.declared.kind.Kind.{Kind}
-use Rattle.decode.specs.declared.kind.Kind.the-variants.{None}
+use Rattle.decode.specs.declared.kind.Kind.the-variants.{Rate, Sample, Beacon, None}
 use Rattle.decode.specs.Limits.{lastSample}
-use Rattle.decode.specs.Read.{applicationOf, kindOf, isKind, fieldsGood, headerGood, readChecks, readNumber}
-use Rattle.ground.specs.Ground.{refused, readOf}
-use Rattle.ground.specs.Theorems.{LowestRead, OtherNumber, ListingNotRead}
-use Rattle.ground.proofs.Answers.{read-refused, no-records, number-read}
+use Rattle.decode.specs.Read.{applicationOf, kindOf, isKind, fieldsGood, headerGood, bodyGood, readChecks, readNumber}
+use Rattle.decode.proofs.Reading.{passed, accepted-body, accepted-rate, accepted-beacon, rate-end, beacon-end}
+use Rattle.ground.specs.declared.Packet.{Packet}
+use Rattle.ground.specs.Ground.{refused, accepted, contents, readOf}
+use Rattle.ground.specs.Theorems.{LowestRead, TakenAs, OtherNumber, ListingNotRead}
+use Rattle.ground.proofs.Answers.{read-accepted, read-refused, no-records, number-read}
 
 pub lowest-read : LowestRead
 unfolding readNumber
 lowest-read xs = rw (number-read xs) (lowest (readChecks xs) refl refl)
+
+-- by its kind
+kind-taken : (xs : List ℕ) (k : Kind) → isKind k ≡ true → bodyGood k xs ≡ true
+    → ((contents k xs .kind ≡ Rate) ⊎ (contents k xs .kind ≡ Sample) ⊎ (contents k xs .kind ≡ Beacon)) × (contents k xs .mark ≤ 2)
+unfolding contents accepted
+kind-taken xs Rate i g = (inl refl, leb-true _ _ (and-left _ _ (rate-end xs (accepted-rate xs g))))
+kind-taken xs Sample i g = (inr (inl refl), omega arith)
+kind-taken xs Beacon i g = (inr (inr refl), leb-true _ _ (and-left _ _ (beacon-end xs (accepted-beacon xs g))))
+kind-taken xs None i g = absurd (false≢true i)
+
+header-kind : (xs : List ℕ) → headerGood xs ≡ true → isKind (kindOf (applicationOf xs)) ≡ true
+unfolding headerGood
+header-kind xs h = and-right (eqb (length xs) packetBytes && fieldsGood xs) _ h
+
+pub taken-as : TakenAs
+taken-as xs e =
+    let z : readNumber xs ≡ 0 = sym (number-read xs) ∙ e in
+    let k : Kind = kindOf (applicationOf xs) in
+    subst (λ (p : Packet). ((p .kind ≡ Rate) ⊎ (p .kind ≡ Sample) ⊎ (p .kind ≡ Beacon)) × (p .mark ≤ 2))
+    (sym (read-accepted xs k z refl)) (kind-taken xs k (header-kind xs (passed xs z .0)) (accepted-body xs k z refl))
 
 -- no kind has the number
 no-kind : (a : ℕ) → (a ≡ 605 → ⊥) → (a ≡ 624 → ⊥) → (606 ≤ a → a ≤ 616 → ⊥) → kindOf a ≡ None

@@ -147,6 +147,12 @@ BeaconDamageRefused =
 abbrev pub LowestRead : Type 0
 LowestRead = (xs : List ℕ) → Lowest (readChecks xs) (readOf xs .number)
 
+-- what is taken is a rate, sample or beacon packet, and a mark that is returned is 0, 1 or 2
+abbrev pub TakenAs : Type 0
+TakenAs =
+    (xs : List ℕ) → readOf xs .number ≡ carriedOut
+    → ((readOf xs .kind ≡ Rate) ⊎ (readOf xs .kind ≡ Sample) ⊎ (readOf xs .kind ≡ Beacon)) × (readOf xs .mark ≤ 2)
+
 -- 11 for any bytes with another number than "rate (application number 605), samples 606 to 616, beacon 624"
 abbrev pub OtherNumber : Type 0
 OtherNumber =
