@@ -142,20 +142,28 @@ fn given(o: CommandList, ranges: Ranges) -> bool
     ok
 }
 
-// Whether the command list is within its limits. Where none waits, the list is neither read nor copied.
-pub fn within(o: CommandList, ranges: Ranges) -> bool
+// Whether the command list is within its limits where some may wait.
+fn waiting_within(o: CommandList, ranges: Ranges) -> bool
     ensures { λ r. ⌜ r ≡ commandListWithin o ranges ⌝ }
 {
     if MOST_COMMANDS < o.accepted {
         return false;
     }
-    if o.waiters == 0 {
-        return true;
-    }
     if o.accepted < o.waiters {
         return false;
     }
     given(o, ranges) & (loads(o) <= 1)
+}
+
+// Whether the command list is within its limits. Small, so that it is compiled into its callers: where none waits, as at
+// nearly every call, the list is neither read nor copied.
+pub fn within(o: CommandList, ranges: Ranges) -> bool
+    ensures { λ r. ⌜ r ≡ commandListWithin o ranges ⌝ }
+{
+    if (o.accepted <= MOST_COMMANDS) & (o.waiters == 0) {
+        return true;
+    }
+    waiting_within(o, ranges)
 }
 
 // The settings after the waiting commands.

@@ -1,23 +1,51 @@
 -- The limits of a state and of its interval as facts, and back; what they say of each count; and what keeps them. Assumes nothing.
-use mathlib.Core.Path.{_≡_, _∙_}
-use mathlib.Core.Bool.{true, not}
+use mathlib.Core.Path.{_≡_, refl, ap, _∙_}
+use mathlib.Core.Bool.{Bool, true, false, _&&_, not}
 use Prim.Native.Nat.{ℕ, _*_, _≤_, _<_}
 use native.Mathlib.Omega.{arith}
 use borrow.Author.Tests.{leb-true, le-leb}
 use Rattle.wire.specs.Lists.{all, atMost, EachBelow}
 use Rattle.wire.proofs.Lists.{and-split, all-at}
+use Rattle.capacity.specs.declared.Numbers.{Numbers}
 use Rattle.capacity.specs.Capacity.{numbersOf}
 use Rattle.settings.specs.Settings.{settingsWithin}
 use Rattle.load.specs.Staging.{addressesWithin}
 use Rattle.load.specs.declared.staging.Addresses.{Addresses}
+use Rattle.command.specs.declared.ranges.Ranges.{Ranges}
 use Rattle.command_list.specs.declared.CommandList.{CommandList}
 use Rattle.command_list.specs.CommandList.{loadWaits, commandListWithin}
 use Rattle.command_list.proofs.CommandListLaws.{any-reach}
 use Rattle.state.specs.declared.State.{State}
 use Rattle.state.specs.declared.interval.Interval.{Interval}
-use Rattle.state.specs.Interval.{mostEvents, mostReadings, intervalWithin}
+use Rattle.state.specs.Interval.{mostEvents, mostReadings, countsWithin, slotsWithin, readingsWithin, intervalWithin}
 use Rattle.state.specs.Limits.{rangesOf, withinLimits}
 use Rattle.state.specs.State.{withInterval, withCommandList, withStaging}
+
+-- ---- the tests of the parts
+
+-- two tests behind one, or one by one
+one-by-one : (a b c : Bool) → (a && (b && c)) ≡ (a && b && c)
+one-by-one true b c = refl
+one-by-one false b c = refl
+
+-- are that of the state, where each part is judged by itself
+pub limits-by-parts : (s : State) {n : Numbers} {g : Ranges} {counts rest settings commands staging : Bool} → n ≡ numbersOf (s .capacity)
+    → g ≡ rangesOf s → counts ≡ countsWithin (s .interval .taken) (s .interval .counts)
+    → rest ≡ (slotsWithin (n .slots) (s .interval .taken) (s .interval .samples) && readingsWithin (s .interval .readings) (s .interval .totals))
+    → settings ≡ settingsWithin (n .limhi) (s .settings) → commands ≡ commandListWithin (s .commands) g
+    → staging ≡ addressesWithin (s .staging) → (counts && rest && settings && commands && staging) ≡ withinLimits s
+unfolding withinLimits intervalWithin
+limits-by-parts s n g c r t m a =
+    let i = s .interval in
+    let slots : Numbers → Bool = λ k. slotsWithin (k .slots) (i .taken) (i .samples) in
+    let readings = readingsWithin (i .readings) (i .totals) in
+    (λ j. c j && r j && t j && m j && a j)
+    ∙ (λ j.
+    countsWithin (i .taken) (i .counts) && (slots (n j) && readings) && settingsWithin (n j .limhi) (s .settings)
+    && commandListWithin (s .commands) (g j) && addressesWithin (s .staging))
+    ∙ ap (λ (b : Bool).
+    b && settingsWithin (rangesOf s .limhi) (s .settings) && commandListWithin (s .commands) (rangesOf s) && addressesWithin (s .staging))
+    (one-by-one (countsWithin (i .taken) (i .counts)) (slots (numbersOf (s .capacity))) readings)
 
 -- ---- a state
 

@@ -1,7 +1,8 @@
 // The interval: what its events and its second readings have come to.
 ghost use mathlib.Core.Path.{_≡_};
+ghost use mathlib.Core.Bool.{_&&_};
 ghost use Rattle.wire.specs.Lists.{all, atMost};
-ghost use Rattle.state.specs.Interval.{noCounts, freshInterval, countsWithin, slotsWithin, readingsWithin, intervalWithin};
+ghost use Rattle.state.specs.Interval.{noCounts, freshInterval, countsWithin, slotsWithin, readingsWithin};
 use boxes::BEACONS;
 use boxes::BOXES;
 use boxes::TOTALS;
@@ -63,11 +64,11 @@ fn all_at_most(a: &[u32], limit: u32) -> bool
     ok
 }
 
-// Taken, and every box and beacon count at most taken.
-fn counts_within(taken: u32, c: Counts) -> bool
-    ensures { λ r. ⌜ r ≡ countsWithin taken c ⌝ }
+// Taken, and every box and beacon count at most taken: where the counts lie, which saves two copies of them at each event.
+pub fn counts_within<'a>(taken: u32, boxes: &'a [u32; BOXES], beacons: &'a [u32; BEACONS]) -> bool
+    ensures { λ r. ⌜ r ≡ countsWithin taken (record { boxes = now (boxes .entry); beacons = now (beacons .entry) }) ⌝ }
 {
-    (taken <= MOST_EVENTS) & all_at_most(&c.boxes, taken) & all_at_most(&c.beacons, taken)
+    (taken <= MOST_EVENTS) & all_at_most(boxes, taken) & all_at_most(beacons, taken)
 }
 
 // Used and replaced slots.
@@ -88,12 +89,16 @@ fn readings_within(readings: u32, totals: &[u32; TOTALS]) -> bool
     all_at_most(totals, 65535 * readings)
 }
 
-// Whether an interval is within its limits, with this many slots.
-pub fn within(i: Interval, slots: usize) -> bool
-    ensures { λ r. ⌜ r ≡ intervalWithin slots i ⌝ }
+// The other parts of an interval: the use of the slots, of which there are so many, and the readings.
+pub fn rest_within(
+    slots: usize,
+    taken: u32,
+    u: SlotUse,
+    readings: u32,
+    totals: &[u32; TOTALS],
+) -> bool
+    ensures { λ r. ⌜ r ≡ (slotsWithin slots taken u && readingsWithin readings (now (totals .entry))) ⌝ }
 {
-    let counts = counts_within(i.taken, i.counts);
-    let samples = slots_within(slots, i.taken, i.samples);
-    let readings = readings_within(i.readings, &i.totals);
-    counts & samples & readings
+    let samples = slots_within(slots, taken, u);
+    samples & readings_within(readings, totals)
 }

@@ -2,6 +2,8 @@
 ghost use mathlib.Core.Path.{_≡_};
 ghost use Rattle.state.specs.Limits.{rangesOf, withinLimits};
 use crate::State;
+use crate::interval::counts_within;
+use crate::interval::rest_within;
 use command::ranges::Ranges;
 
 // The ranges of commands.
@@ -16,16 +18,27 @@ pub fn ranges_of(s: State) -> Ranges
     }
 }
 
-// Whether every part of a state is within its limits.
+// Whether every part of a state is within its limits. The parts are judged where they lie: one function of the whole state
+// would be called out of line, with two copies of it.
 pub fn within_limits(s: State) -> bool
     ensures { λ r. ⌜ r ≡ withinLimits s ⌝ }
 {
     let capacity = s.capacity;
     let numbers = capacity::numbers_of(capacity);
-    let interval = crate::interval::within(s.interval, numbers.slots);
-    let ranges = ranges_of(s);
-    let settings = settings::within(s.settings, ranges.limhi);
-    let commands = command_list::within(s.commands, ranges);
+    let counts = counts_within(
+        s.interval.taken,
+        &s.interval.counts.boxes,
+        &s.interval.counts.beacons,
+    );
+    let rest = rest_within(
+        numbers.slots,
+        s.interval.taken,
+        s.interval.samples,
+        s.interval.readings,
+        &s.interval.totals,
+    );
+    let settings = settings::within(s.settings, numbers.limhi);
+    let commands = command_list::within(s.commands, ranges_of(s));
     let staging = load::staging::addresses_within(s.staging);
-    interval & settings & commands & staging
+    counts & rest & settings & commands & staging
 }

@@ -16,6 +16,34 @@ use causes::unless;
 use sort::event::Event;
 use state::State;
 use state::interval::MOST_EVENTS;
+use state::interval::counts_within;
+use state::interval::rest_within;
+use state::limits::ranges_of;
+
+// `within_limits` of the state once more, part by part where the parts lie. With this one caller it is compiled into the
+// call, which saves each event two copies of the state.
+fn limits_hold(s: State) -> bool
+    ensures { λ r. ⌜ r ≡ withinLimits s ⌝ }
+{
+    let capacity = s.capacity;
+    let numbers = capacity::numbers_of(capacity);
+    let counts = counts_within(
+        s.interval.taken,
+        &s.interval.counts.boxes,
+        &s.interval.counts.beacons,
+    );
+    let rest = rest_within(
+        numbers.slots,
+        s.interval.taken,
+        s.interval.samples,
+        s.interval.readings,
+        &s.interval.totals,
+    );
+    let settings = settings::within(s.settings, numbers.limhi);
+    let commands = command_list::within(s.commands, ranges_of(s));
+    let staging = load::staging::addresses_within(s.staging);
+    counts & rest & settings & commands & staging
+}
 
 // The call's number, from the lengths of the tables and the slots. The first return saves each event nine instructions.
 pub fn event_number(s: State, tables: usize, slots: usize, e: Event) -> u8
@@ -23,7 +51,7 @@ pub fn event_number(s: State, tables: usize, slots: usize, e: Event) -> u8
 {
     let capacity = s.capacity;
     let numbers = capacity::numbers_of(capacity);
-    let limits = state::limits::within_limits(s);
+    let limits = limits_hold(s);
     let lent = (tables == tables::TABLE_BYTES) & (slots == numbers.slots);
     if !(limits & lent) {
         return causes::BUFFER_OR_STATE;

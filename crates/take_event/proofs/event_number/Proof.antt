@@ -15,9 +15,9 @@ returns c =
     let w = c .before .before in
     let n = w .before in
     let a = n .before .args in
-    let e : (w .within-limits .result && (eqb (a .tables) tableBytes && eqb (a .slots) (n .numbers-of .result .slots))) ≡ false =
+    let e : (w .limits-hold .result && (eqb (a .tables) tableBytes && eqb (a .slots) (n .numbers-of .result .slots))) ≡ false =
     not-true _ (c .if1 .taken) in
-    simp (sym (w .within-limits .ensures), sym (n .numbers-of .ensures), e)
+    simp (sym (w .limits-hold .ensures), sym (n .numbers-of .ensures), e)
 
 returns-2 : tie.Need-returns-2
 unfolding eventNumber
@@ -26,9 +26,9 @@ returns-2 c =
     let w = r .before .before .before in
     let n = w .before in
     let a = n .before .args in
-    let e : (w .within-limits .result && (eqb (a .tables) tableBytes && eqb (a .slots) (n .numbers-of .result .slots))) ≡ true =
+    let e : (w .limits-hold .result && (eqb (a .tables) tableBytes && eqb (a .slots) (n .numbers-of .result .slots))) ≡ true =
     not-false _ (r .before .if1 .left) in
-    simp (sym (w .within-limits .ensures), sym (n .numbers-of .ensures), e, c .unless2 .ensures, c .before .unless .ensures, r .in-range .ensures)
+    simp (sym (w .limits-hold .ensures), sym (n .numbers-of .ensures), e, c .unless2 .ensures, c .before .unless .ensures, r .in-range .ensures)
 
 pub event-number-spec : {M : Type 1} → statement M
 event-number-spec =

@@ -4,9 +4,7 @@ use Rattle.state.proofs.interval.counts_within.Statement.{statement}
 use Rattle.state.proofs.interval.counts_within.Tie as tie
 
 returns : tie.Need-returns
-returns c =
-    let boxes = c .before .before .before .before in
-    simp (c .all-at-most2 .ensures, boxes .all-at-most .ensures)
+returns c = simp (c .all-at-most2 .ensures, c .before .before .all-at-most .ensures)
 
 pub counts-within-spec : {M : Type 1} → statement M
 counts-within-spec = tie.close (tie.spec (λ c κs. search needs) (λ c κs. search needs) returns)
