@@ -6,6 +6,7 @@ pub mod Invariant
 pub mod States
 pub mod Numbers
 pub mod Staged
+pub mod Loading
 pub mod Intervals
 pub mod Lending
 pub mod Law

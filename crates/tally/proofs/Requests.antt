@@ -20,13 +20,14 @@ use Rattle.command.specs.declared.command.Command.{Command}
 use Rattle.command.specs.declared.command.Command.the-variants.{Set, Load}
 use Rattle.command.specs.declared.command.Setting.the-variants.{Limhi, Eonly, Toferror, Junk, Hv, Hvstep}
 use Rattle.command.specs.Change.{settingsAfter}
+use Rattle.load.proofs.BitmapLaws.{length-bitmap}
 use Rattle.load.proofs.StagingLaws.{addresses-are, length-staging-after}
 use Rattle.command_list.specs.declared.Waiting.{Waiting}
 use Rattle.command_list.specs.CommandList.{givenAt}
 use Rattle.command_list.specs.Run.{settingsAfterAll, tablesAfterAll}
 use Rattle.command_list.proofs.CommandListLaws.{waiting-with}
 use Rattle.command_list.proofs.RunLaws.{length-tables-after-all}
-use Rattle.load.specs.Staging.{stagingBytes}
+use Rattle.load.specs.Staging.{stagingBytes, payloadBytes}
 use Rattle.tables.specs.Tables.{tableBytes}
 use Rattle.state.specs.Limits.{withinLimits}
 use Rattle.state.specs.State.{withInterval}
@@ -53,7 +54,7 @@ use Rattle.tally.proofs.Invariant.{all-snoc, Sizes, Inv, limhi-most, co
 use Rattle.tally.proofs.Law.{Law, none-balanced, right-plain}
 use Rattle.tally.proofs.Numbers.{event-number, reading-number, line-number, package-number, close-number, listing-number}
 use Rattle.tally.proofs.Numbers.{event-range, line-accepted, package-passed, close-finds, listing-finds}
-use Rattle.tally.proofs.Staged.{none-waits, line-known, ended-known, staged-known, line-right}
+use Rattle.tally.proofs.Staged.{none-waits, line-known, ended-known, staged-known, line-right, line-agrees, ended-tables}
 use Rattle.tally.proofs.States.{event-slots, event-interval, reading-interval, line-state, empty-slots, ended-state}
 
 -- ---- an event
@@ -74,6 +75,7 @@ event-law e = record {
       range = all-snoc (λ x. inRange x ≡ true) (eventsOf t) e (v .range) (event-range t e (eqb-true _ 0 q));
       staged = v .staged;
       commit = v .commit;
+      agrees = v .agrees;
       sized = v .sized;
     };
     right = λ q. right-plain t _ refl (λ c. refl) refl refl (sym (length-append (eventsOf t) (e ∷ [])));
@@ -98,6 +100,7 @@ reading-law c = record {
       range = v .range;
       staged = v .staged;
       commit = v .commit;
+      agrees = v .agrees;
       sized = v .sized;
     };
     right = λ q. right-plain t _ refl (λ c. refl) refl refl (omega arith);
@@ -123,6 +126,7 @@ line-law bytes echo = record {
       range = v .range;
       staged = line-known t v (lineFor t bytes);
       commit = line-right t v (lineFor t bytes) (goodFor t own) (line-accepted t bytes echo (eqb-true _ 0 q) .sound) (λ g. g);
+      agrees = let a = line-accepted t bytes echo (eqb-true _ 0 q) in line-agrees t v (lineFor t bytes) (a .free) (a .agrees);
       sized = v .sized;
     };
     right = λ q. right-plain t _ refl (λ c. refl) refl refl (omega arith);
@@ -148,11 +152,13 @@ package-law bytes echo = record {
           range = v .range;
           staged = staged-known t v bytes echo q;
           commit = λ w. absurd (true≢false (sym w ∙ not-true _ (k .passed .none-waits)));
+          agrees = λ w. absurd (true≢false (sym w ∙ not-true _ (k .passed .none-waits)));
           sized = record {
             hvstep-fits = v .sized .hvstep-fits;
             tables-are = v .sized .tables-are;
             staging-is = length-staging-after (t .staging) bytes (t .addresses .next) (k .lengths .staging-is)
                 (rw (k .passed .is-formed, k .passed .is-fitting)) ∙ sym (k .lengths .staging-is) ∙ v .sized .staging-is;
+            bitmap-is = length-bitmap (t .bitmap) (t .addresses .next) (payloadBytes bytes) _ ∙ v .sized .bitmap-is;
           };
         };
     right = λ q. right-plain t _ refl (λ c. refl) refl refl (omega arith);
@@ -202,10 +208,12 @@ ended-kept t v lt ls =
       range = tt;
       staged = ended-known t v;
       commit = λ w. absurd (none-waits w);
+      agrees = λ w. absurd (none-waits w);
       sized = record {
         hvstep-fits = commands-fit (t .settings) (t .commands .waiting) (v .sized .hvstep-fits);
         tables-are = length-tables-after-all (t .staging) n k (t .tables) (t .commands .waiting) lt g ∙ sym lt ∙ v .sized .tables-are;
         staging-is = v .sized .staging-is;
+        bitmap-is = v .sized .bitmap-is;
       };
     }
 
@@ -249,6 +257,7 @@ close-law time out = record {
       balanced = (counts-balanced (t .settings) (t .tables) (eventsOf t), tt);
       summaries-are = λ c. refl;
       intervals = (ended-right t v time, tt);
+      tables-run = (ended-tables t v, tt);
       listings = tt;
       all-said = λ c x y. absurd (one-none _ x);
       events = omega arith;
@@ -275,6 +284,7 @@ listing-law i time out = record {
           balanced = tt;
           summaries-are = λ c. refl;
           intervals = tt;
+          tables-run = tt;
           listings = (record { listing-is = refl; tables-are = f .0; i-below = f .1; out-is = refl }, tt);
           all-said = λ c x y. absurd (one-none _ y);
           events = omega arith;

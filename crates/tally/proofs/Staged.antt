@@ -1,6 +1,6 @@
--- Below the reach every byte was written by a package, and the bitmap tells the bad ones; while a commit waits all are right. No reset of
--- the bitmap is needed: where the reach is 0, nothing is said of it. Assumes nothing.
-use mathlib.Core.Path.{_≡_, refl, sym, ap, _∙_}
+-- Below the reach every byte was written by a package, and the bitmap tells the bad ones; while a commit waits all are right and have the
+-- sum that it gave. No reset of the bitmap is needed: where the reach is 0, nothing is said of it. Assumes nothing.
+use mathlib.Core.Path.{_≡_, refl, sym, ap, _∙_, subst}
 use mathlib.Core.Logic.{_≢_}
 use mathlib.Core.Bool.{Bool, true, false, _&&_, not, cond, false≢true, true≢false}
 use mathlib.Core.List.{List, [], _∷_, _++_, append-nil}
@@ -14,7 +14,7 @@ use Rattle.wire.specs.Lists.{keep}
 use Rattle.wire.proofs.Lists.{and-left, and-right, choice, decide, keep-append, keep-one}
 use Rattle.wire.proofs.Pieces.{each-at}
 use Rattle.load.specs.declared.staging.Addresses.{Addresses}
-use Rattle.load.specs.Bitmap.{bitmapBytes, isBad, bitmapAfter}
+use Rattle.load.specs.Bitmap.{bitmapBytes, isBad, bitmapAfter, stagedSum}
 use Rattle.load.specs.Staging.{stagingBytes, payloadBytes, receivedSum, computedSum, fits, freshAddresses}
 use Rattle.load.proofs.BitmapLaws.{bitmap-tells}
 use Rattle.load.proofs.StagingLaws.{addresses-are}
@@ -22,17 +22,19 @@ use Rattle.command.specs.declared.command.Command.{Command}
 use Rattle.command.specs.declared.command.Line.{Line}
 use Rattle.command.specs.declared.command.Line.the-variants.{Empty, Wrong, Change, LoadZero, LoadAt, Ask, Commit}
 use Rattle.command.specs.declared.command.Command.the-variants.{Set}
-use Rattle.command.specs.Asked.{isLoad, traitsOf}
+use Rattle.command.specs.Asked.{isLoad, traitsOf, sumAgrees}
 use Rattle.command_list.specs.declared.Waiting.{Waiting}
 use Rattle.command_list.specs.CommandList.{loadsIn}
+use Rattle.command_list.proofs.CommandListLaws.{waiting-with}
 use Rattle.take_package.specs.Package.{isStaged}
 use Rattle.state.proofs.LimitLaws.{state-limits}
 use Rattle.tally.specs.World.{allOwn}
 use Rattle.tally.specs.Tally.{Wrote, unwritten, byRight, byWrong, isWrong, writerBy, wroteAfter, Tally, loadWaitsFor, noneWrong}
 use Rattle.tally.specs.Tally.{packageNumberFor, lineTaken, packagePlaced, ended}
 use Rattle.tally.specs.View.{viewState}
-use Rattle.tally.specs.Demand3.{StagedKnown, AllRight}
-use Rattle.tally.proofs.Invariant.{Sizes, Inv}
+use Rattle.tally.specs.Demand3.{StagedKnown, AllRight, TablesRun}
+use Rattle.tally.proofs.Invariant.{Sizes, Inv, commands-most}
+use Rattle.tally.proofs.Loading.{waits-loads, loads-wait, run-none, run-load}
 use Rattle.tally.proofs.Numbers.{package-passed}
 
 -- ---- one byte
@@ -148,3 +150,34 @@ module _ {z : Sizes} (t : Tally) (v : Inv z t) where
   line-right (LoadAt a) good s n w = v .commit (none-more w)
   line-right Ask good s n w = v .commit (none-more w)
   line-right (Commit a y k) good s n w = all-right (n (not-false _ (not-true _ s)))
+
+  -- and what waits with a commit keeps the sum that it gave: no line that changes the reach is accepted while it waits
+  pub line-agrees : (l : Line) → not (traitsOf l .staging && loadWaitsFor t) ≡ true
+      → sumAgrees (traitsOf l .sum) (stagedSum (t .staging) (t .addresses .reach)) ≡ true
+      → loadWaitsFor (lineTaken t l) ≡ true → stagedSum (t .staging) (lineTaken t l .addresses .reach) ≡ lineTaken t l .agreed
+  line-agrees Empty f s w = v .agrees w
+  line-agrees Wrong f s w = v .agrees w
+  line-agrees (Change k x) f s w = v .agrees (sym (ap (leb 1) (more-loads (t .commands .waiting) (Set k x) refl)) ∙ w)
+  line-agrees LoadZero f s w = absurd (true≢false (sym (none-more w) ∙ not-true _ f))
+  line-agrees (LoadAt a) f s w = v .agrees (none-more w)
+  line-agrees Ask f s w = v .agrees (none-more w)
+  line-agrees (Commit a y n) f s w = sym (eqb-true n _ s)
+
+  -- what a close loads
+  pub ended-tables : TablesRun t (ended t .tables)
+  ended-tables =
+      let most : loadsIn (t .commands .waiting) ≤ 1 =
+      subst (λ ws. loadsIn ws ≤ 1) (waiting-with (t .commands .accepted) (t .commands .waiting)) (commands-most t v .loads-most) in
+      record {
+        loads = λ a y h.
+            let w : loadWaitsFor t ≡ true = le-leb 1 _ (waits-loads (t .commands .waiting) a y h) in
+            record {
+              tables-are = run-load (t .staging) (t .addresses .reach) (t .tables) (t .commands .waiting) a y h most;
+              bytes-right = v .commit w;
+              sum-is = v .agrees w;
+            };
+        otherwise = λ n. run-none (t .staging) (t .addresses .reach) (t .tables) (t .commands .waiting)
+            (decide (leb 1 (loadsIn (t .commands .waiting)))
+            (λ q. let r = loads-wait (t .commands .waiting) (leb-true 1 _ q) in absurd (n (r .0) (r .1) (r .2)))
+            (λ q. omega (arith, leb-false 1 (loadsIn (t .commands .waiting)) q)));
+      }

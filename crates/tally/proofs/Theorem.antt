@@ -25,7 +25,7 @@ use Rattle.tally.proofs.Intervals.{samples-differ}
 use Rattle.tally.proofs.Invariant.{Sizes, Inv, limhi-most}
 use Rattle.tally.proofs.Law.{Law, request-step}
 use Rattle.tally.proofs.Requests.{single-law}
-use Rattle.tally.proofs.Staged.{none-below, none-right}
+use Rattle.tally.proofs.Staged.{none-below, none-right, none-waits}
 use Rattle.tally.proofs.States.{empty-slots, no-interval, no-commands}
 use Rattle.tally.proofs.StepLaws.{Step, followed, moves}
 
@@ -49,6 +49,7 @@ moment t v = record {
   samples = samples-differ t v;
   staged-known = v .staged;
   commit-right = v .commit;
+  commit-agrees = v .agrees;
 }
 
 -- ---- a fresh processor
@@ -58,7 +59,7 @@ module _ (c : Capacity) (tables staging bitmap : List ℕ) where
   start = freshTally c tables staging bitmap
 
   abbrev pub sizes : Sizes
-  sizes = record { tables = length tables; staging = length staging }
+  sizes = record { tables = length tables; staging = length staging; bitmap = length bitmap }
 
   fresh-state : freshState c ≡ viewState start
   unfolding freshState
@@ -81,7 +82,8 @@ module _ (c : Capacity) (tables staging bitmap : List ℕ) where
     range = tt;
     staged = none-below bitmap (λ i. unwritten);
     commit = λ w. none-right (λ i. unwritten);
-    sized = record { hvstep-fits = omega arith; tables-are = refl; staging-is = refl };
+    agrees = λ w. absurd (none-waits w);
+    sized = record { hvstep-fits = omega arith; tables-are = refl; staging-is = refl; bitmap-is = refl };
   }
 
 -- ---- the theorem

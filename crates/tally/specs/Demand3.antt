@@ -1,6 +1,6 @@
 -- Demand 3: one claim about every list of calls to a fresh processor (document 01, "The tally of demand 3"). Assumes nothing.
 use mathlib.Core.Path.{_≡_}
-use mathlib.Core.Logic.{_≢_}
+use mathlib.Core.Logic.{_≢_, _⊎_}
 use mathlib.Core.Bool.{true}
 use mathlib.Core.List.{List, [], _∷_, map}
 use Prim.Native.Nat.{ℕ, _+_, _-_, _*_, _<_, min}
@@ -12,7 +12,10 @@ use Rattle.tables.specs.Tables.{tableBytes}
 use Rattle.counts.specs.declared.Counts.{Counts}
 use Rattle.samples.specs.Samples.{filled}
 use Rattle.samples.specs.Selection.{OfDifferentEvents}
-use Rattle.load.specs.Bitmap.{isBad}
+use Rattle.load.specs.Bitmap.{isBad, stagedSum}
+use Rattle.load.specs.Load.{loaded}
+use Rattle.command.specs.declared.command.Command.the-variants.{Load}
+use Rattle.command_list.specs.declared.Waiting.{Waiting}
 use Rattle.listing_packet.specs.Listing.{listingPackets}
 use Rattle.state.specs.Limits.{withinLimits}
 use Rattle.output.specs.declared.Summary.{Summary}
@@ -69,6 +72,8 @@ pub record Moment (t : Tally) (w : World) : Type 0 where
   pub staged-known : StagedKnown (w .buffers .bitmap) (t .wrote) (w .state .staging .reach)
   -- while a commit waits, every byte below the reach was last written by a package with a right sum: that is what a close loads
   pub commit-right : loadWaitsFor t ≡ true → AllRight (t .wrote) (t .addresses .reach)
+  -- and their sum is the one that the commit gave
+  pub commit-agrees : loadWaitsFor t ≡ true → stagedSum (t .staging) (t .addresses .reach) ≡ t .agreed
 
 -- ---- of each call
 
@@ -85,6 +90,24 @@ pub record ClosedInterval (t : Tally) (r : Reply) (e : Sent) : Type 0 where
   -- "packet p (0 to 10) has slots 64p to 64p + 63"
   pub slots-are : (i : ℕ) → i < e .span .many → recordsIn (r .out) i ≡ words (take 64 (drop (64 * i) (selected t .slots)))
   pub samples : Samples t (selected t .slots)
+
+-- a commit waits with this a and y
+abbrev pub CommitWaits : List Waiting → (a y : ℕ) → Type 0
+CommitWaits [] a y = ⊥
+CommitWaits (w ∷ ws) a y = (w .command ≡ Load a y) ⊎ CommitWaits ws a y
+
+-- what a close makes of the tables where such a commit waits: "load a y packs the reach", here into the tables as they were
+pub record Loads (t : Tally) (tables : List ℕ) (a y : ℕ) : Type 0 where
+  pub tables-are : tables ≡ loaded (t .tables) (t .staging) a y (t .addresses .reach)
+  -- "no byte below the reach was last written by a package with a wrong sum": each was last written by one with a right sum
+  pub bytes-right : AllRight (t .wrote) (t .addresses .reach)
+  -- "16 when commit's sum differs from that of the bytes lent below the reach": theirs is the one that the commit gave
+  pub sum-is : total (take (t .addresses .reach) (t .staging)) ≡ t .agreed
+
+-- what the waiting commands make of the tables: a commit loads, and no other command changes them
+pub record TablesRun (t : Tally) (tables : List ℕ) : Type 0 where
+  pub loads : (a y : ℕ) → CommitWaits (t .commands .waiting) a y → Loads t tables a y
+  pub otherwise : ((a y : ℕ) → CommitWaits (t .commands .waiting) a y → ⊥) → tables ≡ t .tables
 
 -- what a listing returned of the tables
 pub record ListedPart (t : Tally) (r : Reply) (l : Listing) : Type 0 where
@@ -111,6 +134,8 @@ pub record Right (t : Tally) (d : Done World Answered) : Type 0 where
   -- what is returned out is of the intervals that it ended
   pub summaries-are : d .carried ≡ true → d .answer .reply .summaries ≡ summariesIn (d .answer .facts .ended)
   pub intervals : All (ClosedInterval t (d .answer .reply)) (d .answer .facts .ended)
+  -- each of these intervals leaves the tables that the waiting commands make of them
+  pub tables-run : All (λ e. TablesRun t (d .next .buffers .tables)) (d .answer .facts .ended)
   pub listings : All (ListedPart t (d .answer .reply)) (d .answer .facts .listings)
   -- nothing goes unsaid: what is carried out, ends no interval and writes no listing has no output
   pub all-said : d .carried ≡ true → d .answer .facts .ended ≡ [] → d .answer .facts .listings ≡ []

@@ -23,6 +23,7 @@ use Rattle.load.specs.Bitmap.{bitmapAfter, noneBad, stagedSum}
 use Rattle.load.specs.Staging.{payloadBytes, receivedSum, computedSum, stagingAfter, addressesAfter, freshAddresses}
 use Rattle.echo.specs.Echo.{refusedEcho}
 use Rattle.command.specs.declared.command.Line.{Line}
+use Rattle.command.specs.declared.command.Line.the-variants.{Empty, Wrong, Change, LoadZero, LoadAt, Ask, Commit}
 use Rattle.command.specs.declared.ranges.Ranges.{Ranges}
 use Rattle.command.specs.Asked.{traitsOf}
 use Rattle.command.specs.Grammar.{lineOf}
@@ -69,7 +70,8 @@ isWrong byWrong = true
 
 -- "It keeps tables and staging .., next address, reach, settings, waiting commands, how many were accepted, readings, and the
 -- interval's events in order", and how many closes there were; document 02, Point 4: "the tally keeping which staged bytes are bad", by
--- the packages alone. Of the lent bitmap it keeps what it holds, and judges by its length alone
+-- the packages alone. Of the lent bitmap it keeps what it holds, and judges by its length alone. Of the line "commit a y sum" it keeps the
+-- sum, which the command that waits does not have
 pub record Tally : Type 0 where
   pub capacity : Capacity
   pub closes : ℕ
@@ -80,6 +82,8 @@ pub record Tally : Type 0 where
   pub addresses : Addresses
   pub settings : Settings
   pub commands : Commands
+  -- the sum that the last accepted commit gave
+  pub agreed : ℕ
   pub interval : OpenInterval
 
 abbrev pub noCommands : Commands
@@ -100,6 +104,7 @@ freshTally c tables staging bitmap = record {
   addresses = freshAddresses;
   settings = freshSettings;
   commands = noCommands;
+  agreed = 0;
   interval = emptyInterval;
 }
 
@@ -212,11 +217,12 @@ withOpen t g = record {
   addresses = t .addresses;
   settings = t .settings;
   commands = t .commands;
+  agreed = t .agreed;
   interval = g;
 }
 
-abbrev pub withCommands : Tally → Commands → Addresses → Tally
-withCommands t o a = record {
+abbrev pub withCommands : Tally → Commands → Addresses → (agreed : ℕ) → Tally
+withCommands t o a n = record {
   capacity = t .capacity;
   closes = t .closes;
   tables = t .tables;
@@ -226,6 +232,7 @@ withCommands t o a = record {
   addresses = a;
   settings = t .settings;
   commands = o;
+  agreed = n;
   interval = t .interval;
 }
 
@@ -244,8 +251,18 @@ oneMore o ws = record { accepted = o .accepted + 1; waiting = ws }
 abbrev pub commandsAfter : Commands → Line → Commands
 commandsAfter o l = cond (traitsOf l .command) (oneMore o (o .waiting ++ leftWaiting (traitsOf l .leaves))) o
 
+-- "commit a y sum": the sum that it gives
+abbrev pub agreedAfter : (agreed : ℕ) → Line → ℕ
+agreedAfter n Empty = n
+agreedAfter n Wrong = n
+agreedAfter n (Change k x) = n
+agreedAfter n LoadZero = n
+agreedAfter n (LoadAt a) = n
+agreedAfter n Ask = n
+agreedAfter n (Commit a y sum) = sum
+
 abbrev pub lineTaken : Tally → Line → Tally
-lineTaken t l = withCommands t (commandsAfter (t .commands) l) (addressesAfterLine (t .addresses) l)
+lineTaken t l = withCommands t (commandsAfter (t .commands) l) (addressesAfterLine (t .addresses) l) (agreedAfter (t .agreed) l)
 
 -- a package's bytes were last written by it
 abbrev pub writerBy : (right : Bool) → Wrote
@@ -267,6 +284,7 @@ packagePlaced t bytes = record {
   addresses = addressesAfter (t .addresses) bytes;
   settings = t .settings;
   commands = t .commands;
+  agreed = t .agreed;
   interval = t .interval;
 }
 
@@ -282,6 +300,7 @@ ended t = record {
   addresses = addressesAfterAll (t .addresses) (t .commands .waiting);
   settings = settingsAfterAll (t .settings) (t .commands .waiting);
   commands = noCommands;
+  agreed = t .agreed;
   interval = emptyInterval;
 }
 
