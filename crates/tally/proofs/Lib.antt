@@ -13,4 +13,8 @@ pub mod Law
 pub mod Requests
 pub mod Theorem
 pub mod CallLaws
+pub mod TextLaws
+pub mod ParsedLaws
+pub mod WhenLaws
+pub mod WhenCalls
 pub mod Corollaries

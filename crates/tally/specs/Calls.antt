@@ -26,7 +26,7 @@ use Rattle.end_interval.specs.End.{stateEnded, tablesEnded}
 use Rattle.processor.specs.Close.{closeSpan, CloseDone, closeDone}
 use Rattle.processor.specs.Listing.{ListingDone, listingDone}
 use Rattle.tally.specs.Steps.{Done}
-use Rattle.tally.specs.World.{World, withState, withSlots, Lending, ownsAll, lend, giveBack, othersLeft}
+use Rattle.tally.specs.World.{World, withState, withSlots, Lending, allOwn, ownsAll, lend, giveBack, othersLeft}
 
 -- "eight 16-bit counts": what the type of a reading's argument says
 pub record Counts8 : Type 0 where
@@ -46,6 +46,10 @@ pub data Request : Type 0 where
 pub record Call (A : Type 0) : Type 0 where
   pub lent : Lending
   pub request : A
+
+-- with the processor's own buffers
+abbrev pub owning : {A : Type 0} → A → Call A
+owning a = record { lent = allOwn; request = a }
 
 -- ---- answers: one record with a field for each thing that some call returns beside the state, so that nothing goes by cases on it
 
