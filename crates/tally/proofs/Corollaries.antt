@@ -15,7 +15,8 @@ use Rattle.tally.specs.Calls.{SingleRequest, asks, close, SingleCall, ow
 use Rattle.tally.specs.Tally.{Tally, freshTally, sentFor, tallyStep}
 use Rattle.tally.specs.View.{view}
 use Rattle.tally.specs.Texts.{textOf}
-use Rattle.tally.specs.When.{numberOf, LentWhen, EventWhen, ReadingWhen, CommandWhen, LineWhen, PackageWhen, ListingWhen, Numbers, numbersWhen}
+use Rattle.tally.specs.When.{numberOf, LentWhen, EventWhen, ReadingWhen, CommandWhen, LineWhen, PackageWhen, ListingWhen, Numbers}
+use Rattle.tally.specs.When.{numbersWhen}
 use Rattle.tally.proofs.Invariant.{Inv}
 use Rattle.tally.proofs.StepLaws.{lawful-view, inv-after}
 use Rattle.tally.proofs.Theorem.{step, sizes, fresh-view, fresh-inv, demand-3}
@@ -63,7 +64,8 @@ module _ (c : Capacity) (tables staging bitmap : List ℕ) (cs : List SingleCall
     pub listing-now : (i time : ℕ) (out : List ℕ) → length out ≡ 272
         → ListingWhen now i time out (nextNow (owning (asks (listing i time out))) .answer .reply)
     listing-now i time out lo =
-        as-tallied (λ d. ListingWhen now i time out (d .answer .reply)) (asks (listing i time out)) (listing-when now now-inv tables-now i time out lo)
+        as-tallied (λ d. ListingWhen now i time out (d .answer .reply)) (asks (listing i time out))
+        (listing-when now now-inv tables-now i time out lo)
 
     -- a close is never refused, and hands out what the tally has
     pub close-now : length staging ≡ 62985 → (time : ℕ) (out : List ℕ) → length out ≡ spanBytes (closeSpan (now .capacity))
@@ -88,12 +90,14 @@ module _ (c : Capacity) (tables staging bitmap : List ℕ) (cs : List SingleCall
         listings = listing-now lt;
       }
     where
-      line-now : (echo : List ℕ) → LineWhen now (λ bytes. doneFor now now-inv (asks (line bytes echo))) → LineWhen now (λ bytes. nextNow (owning (asks (line bytes echo))))
+      line-now : (echo : List ℕ) → LineWhen now (λ bytes. doneFor now now-inv (asks (line bytes echo)))
+          → LineWhen now (λ bytes. nextNow (owning (asks (line bytes echo))))
       line-now echo w = record {
         other-bytes = λ bytes h. as-tallied (λ d. numberOf d ≡ 4) (asks (line bytes echo)) (w .other-bytes bytes h);
         wrong = λ bytes h n x. as-tallied (λ d. numberOf d ≡ 5) (asks (line bytes echo)) (w .wrong bytes h n x);
         empty = as-tallied (λ d. numberOf d ≡ 0) (asks (line [] echo)) (w .empty);
-        none-counted = as-tallied (λ d. d .next .state .commands .accepted ≡ now .commands .accepted) (asks (line [] echo)) (w .none-counted);
+        none-counted = as-tallied (λ d. d .next .state .commands .accepted ≡ now .commands .accepted) (asks (line [] echo))
+            (w .none-counted);
         commands = λ x r. as-tallied (CommandWhen now x) (asks (line (textOf x) echo)) (w .commands x r);
       }
 

@@ -1,12 +1,9 @@
 -- Whether a commit waits, and what the waiting commands make of the tables then: no word of a tally. Assumes nothing.
-use mathlib.Core.Path.{_≡_, refl, sym, ap, _∙_, subst}
-use mathlib.Core.Bool.{true, false}
+use mathlib.Core.Path.{_≡_, refl, ap, _∙_}
 use mathlib.Core.List.{List, [], _∷_}
-use mathlib.Core.Logic.{_⊎_, inl, inr}
+use mathlib.Core.Logic.{inl, inr}
 use Prim.Native.Nat.{ℕ, _+_, _≤_}
 use native.Mathlib.Omega.{arith}
-use borrow.Author.Tests.{leb-true, lt-leb}
-use lib.Dec.{leb}
 use lib.ListN.{length}
 use Rattle.wire.specs.Lists.{joinIf, keep}
 use Rattle.load.specs.Load.{loaded}

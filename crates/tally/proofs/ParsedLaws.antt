@@ -1,9 +1,9 @@
 -- A line that the grammar does not find wrong is empty or the text of a command in its ranges. Assumes nothing.
 use mathlib.Core.Path.{_≡_, refl, sym, ap, _∙_, subst}
-use mathlib.Core.Bool.{Bool, true, false, _&&_, cond, false≢true}
+use mathlib.Core.Bool.{Bool, true, false, _&&_, false≢true}
 use mathlib.Core.List.{List, [], _∷_, _++_, map}
 use mathlib.Core.Logic.{_⊎_, inl, inr, ⊎-elim}
-use Prim.Native.Nat.{ℕ, _+_, _-_, _≤_, _<_}
+use Prim.Native.Nat.{ℕ, _+_, _-_, _<_}
 use Prim.Native.String.{String}
 use native.Mathlib.Omega.{arith}
 use borrow.Author.Tests.{leb-true, le-leb, lt-leb, eqb-true, ne-eqb}
@@ -17,7 +17,7 @@ use Rattle.load.specs.Load.{loadLawful}
 use Rattle.load.proofs.LoadLaws.{lawful-is}
 use Rattle.command.proofs.DigitLaws.{digit-range}
 use Rattle.command.specs.declared.command.Line.{Line}
-use Rattle.command.specs.declared.command.Line.the-variants.{Wrong, Change, LoadZero, LoadAt, Ask, Commit}
+use Rattle.command.specs.declared.command.Line.the-variants.{Wrong}
 use Rattle.command.specs.declared.command.Setting.the-variants.{Limhi, Eonly, Toferror, Junk, Hv, Hvstep}
 use Rattle.command.specs.declared.argument.Argument.{Argument}
 use Rattle.command.specs.declared.argument.Argument.the-variants.{Value, Malformed}

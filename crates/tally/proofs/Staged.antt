@@ -2,20 +2,19 @@
 -- sum that it gave. No reset of the bitmap is needed: where the reach is 0, nothing is said of it. Assumes nothing.
 use mathlib.Core.Path.{_≡_, refl, sym, ap, _∙_, subst}
 use mathlib.Core.Logic.{_≢_}
-use mathlib.Core.Bool.{Bool, true, false, _&&_, not, cond, false≢true, true≢false}
+use mathlib.Core.Bool.{Bool, true, false, _&&_, not, false≢true, true≢false}
 use mathlib.Core.List.{List, [], _∷_, _++_, append-nil}
 use Prim.Native.Nat.{ℕ, _+_, _*_, _≤_, _<_, max}
 use native.Mathlib.Nat.{not-suc-le-zero}
 use native.Mathlib.Omega.{arith}
-use borrow.Author.Tests.{leb-true, leb-false, ltb-true, ltb-false, le-leb, lt-leb, lt-ltb, le-ltb, not-true, not-false, eqb-true}
+use borrow.Author.Tests.{leb-true, leb-false, ltb-false, le-leb, not-true, not-false, eqb-true}
 use lib.Dec.{eqb, leb, ltb}
 use lib.ListN.{length}
 use Rattle.wire.specs.Lists.{keep}
-use Rattle.wire.proofs.Lists.{and-left, and-right, choice, decide, keep-append, keep-one}
+use Rattle.wire.proofs.Lists.{choice, decide, keep-append, keep-one}
 use Rattle.wire.proofs.Pieces.{each-at}
-use Rattle.load.specs.declared.staging.Addresses.{Addresses}
-use Rattle.load.specs.Bitmap.{bitmapBytes, isBad, bitmapAfter, stagedSum}
-use Rattle.load.specs.Staging.{stagingBytes, payloadBytes, receivedSum, computedSum, fits, freshAddresses}
+use Rattle.load.specs.Bitmap.{bitmapAfter, stagedSum}
+use Rattle.load.specs.Staging.{stagingBytes, payloadBytes, receivedSum, computedSum, freshAddresses}
 use Rattle.load.proofs.BitmapLaws.{bitmap-tells}
 use Rattle.load.proofs.StagingLaws.{addresses-are}
 use Rattle.command.specs.declared.command.Command.{Command}

@@ -1,8 +1,8 @@
 -- The grammar reads each right text as what it says. Assumes nothing.
-use mathlib.Core.Path.{_≡_, refl, sym, ap, _∙_}
-use mathlib.Core.Bool.{Bool, true, false, _&&_, not}
+use mathlib.Core.Path.{_≡_, refl, ap, _∙_}
+use mathlib.Core.Bool.{Bool, true, false, not}
 use mathlib.Core.List.{List, [], _∷_, _++_, map, append-nil}
-use Prim.Native.Nat.{ℕ, zero, suc, _+_, _-_, _*_, _/_, _≤_, _<_}
+use Prim.Native.Nat.{ℕ, zero, suc, _+_, _-_, _*_, _≤_, _<_}
 use Prim.Native.String.{String}
 use native.Mathlib.Omega.{arith}
 use borrow.Author.Tests.{leb-true, leb-false, le-leb, lt-leb, eq-eqb, ne-eqb, not-true}
@@ -11,19 +11,20 @@ use lib.ListN.{length, length-append}
 use Rattle.wire.specs.Lists.{All, all}
 use Rattle.wire.specs.Text.{text, hexDigit}
 use Rattle.wire.specs.Words.{same}
-use Rattle.wire.proofs.Lists.{decide, and-split, all-append}
+use Rattle.wire.proofs.Lists.{decide, and-split}
 use Rattle.load.specs.Load.{loadWords, loadLawful}
 use Rattle.command.specs.declared.command.Line.{Line}
-use Rattle.command.specs.declared.command.Line.the-variants.{Empty, Wrong, Change, LoadZero, LoadAt, Ask, Commit}
+use Rattle.command.specs.declared.command.Line.the-variants.{Change, LoadZero, LoadAt, Ask, Commit}
 use Rattle.command.specs.declared.command.Setting.{Setting}
 use Rattle.command.specs.declared.command.Setting.the-variants.{Limhi, Eonly, Toferror, Junk, Hv, Hvstep}
 use Rattle.command.specs.declared.ranges.Ranges.{Ranges}
 use Rattle.command.specs.declared.argument.Argument.{Argument}
-use Rattle.command.specs.declared.argument.Argument.the-variants.{Value, Malformed}
-use Rattle.command.specs.Grammar.{printable, bytesOk, lineWords, onto, isDigit, digitValue, hexBehind, argumentOf, rightIf, lookupKeyword, mostOf}
+use Rattle.command.specs.declared.argument.Argument.the-variants.{Value}
+use Rattle.command.specs.Grammar.{printable, lineWords, onto, isDigit, digitValue, hexBehind, argumentOf, rightIf, lookupKeyword}
 use Rattle.command.specs.Grammar.{withOne, withTwo, withThree, oneArgument, twoArguments, threeArguments, ofWords, lineOf}
-use Rattle.tally.specs.Texts.{Digits, valueBehind, valueOf, argumentsText, lineText, CommandText, change, loadZero, loadAt, ask, commit}
-use Rattle.tally.specs.Texts.{settingWord, textOf, settingMost, wordsOf, Loadable, InRanges}
+use Rattle.tally.specs.Texts.{Digits, valueBehind, valueOf, argumentsText, lineText, CommandText, change, loadZero, loadAt, ask}
+use Rattle.tally.specs.Texts.{commit}
+use Rattle.tally.specs.Texts.{textOf, settingMost, wordsOf, Loadable, InRanges, TextsAre}
 
 -- ---- one digit
 
@@ -58,7 +59,8 @@ digit d h =
 
 -- ---- an argument
 
-pub digits-all : (p : ℕ → Bool) → ((d : ℕ) → d < 16 → p (hexDigit d) ≡ true) → (ds : List ℕ) → All (λ d. d < 16) ds → all p (map hexDigit ds) ≡ true
+pub digits-all : (p : ℕ → Bool) → ((d : ℕ) → d < 16 → p (hexDigit d) ≡ true) → (ds : List ℕ) → All (λ d. d < 16) ds
+    → all p (map hexDigit ds) ≡ true
 digits-all p k [] h = refl
 digits-all p k (d ∷ ds) h = rw (k d (h .0), digits-all p k ds (h .1))
 
@@ -97,7 +99,8 @@ word-first (b ∷ bs) rest h =
     let s = and-split _ _ h in
     rw (not-true (eqb b 32) (s .0)) (ap (onto b) (word-first bs rest (s .1)))
 
-words-are : (w : List ℕ) (dss : List (List ℕ)) → spaceless w ≡ true → All Digits dss → lineWords (w ++ argumentsText dss) ≡ w ∷ map (map hexDigit) dss
+words-are : (w : List ℕ) (dss : List (List ℕ)) → spaceless w ≡ true → All Digits dss
+    → lineWords (w ++ argumentsText dss) ≡ w ∷ map (map hexDigit) dss
 words-are w [] h k = ap lineWords (append-nil w) ∙ word-last w h
 words-are w (ds ∷ dss) h k =
     word-first w (map hexDigit ds ++ argumentsText dss) h
@@ -148,13 +151,15 @@ words-same (suc (suc y)) reach = refl
 loadable-lawful : (reach a y : ℕ) → Loadable reach a y → loadLawful a y reach ≡ true
 unfolding loadLawful
 loadable-lawful reach a y h =
-    rw (le-leb y 2 (h .0), le-leb 1 reach (h .1), le-leb 0x7000 a (h .2), le-leb (a + loadWords y reach) 0xC203 (omega (arith, words-same y reach, h .3)))
+    let last : a + loadWords y reach ≤ 0xC203 = omega (arith, words-same y reach, h .3) in
+    rw (le-leb y 2 (h .0), le-leb 1 reach (h .1), le-leb 0x7000 a (h .2), le-leb (a + loadWords y reach) 0xC203 last)
 
 module _ (reach limhi : ℕ) where
   abbrev pub within : Ranges
   within = record { reach = reach; limhi = limhi }
 
-  change-meant : (k : Setting) (n : List ℕ) → Digits n → valueOf n ≤ settingMost limhi k → lineOf (textOf (change k n)) within ≡ Change k (valueOf n)
+  change-meant : (k : Setting) (n : List ℕ) → Digits n → valueOf n ≤ settingMost limhi k
+      → lineOf (textOf (change k n)) within ≡ Change k (valueOf n)
   unfolding withOne lookupKeyword same rightIf
   change-meant Limhi n d h = read-one "limhi" within refl n d ∙ rw (le-leb _ _ h)
   change-meant Eonly n d h = read-one "eonly" within refl n d ∙ rw (le-leb _ _ h)
@@ -171,3 +176,16 @@ module _ (reach limhi : ℕ) where
   text-meant (ask a y) h = read-two "ask" within refl a y (h .0) (h .1) ∙ rw (loadable-lawful _ _ _ (h .2))
   text-meant (commit a y s) h =
       read-three "commit" within refl a y s (h .0) (h .1) (h .2) ∙ rw (loadable-lawful _ _ _ (h .3))
+
+-- ---- a text of each form
+
+pub texts-are : TextsAre
+texts-are = record {
+  texts = refl;
+  value = refl;
+  whole-tables = λ reach limhi h k. (
+    (omega arith, omega arith, (omega arith, (omega arith, (omega arith, (omega arith, tt))))),
+    (omega arith, omega arith, (omega arith, tt)),
+    (omega arith, h, omega arith, omega arith),
+  );
+}

@@ -1,28 +1,27 @@
 -- When each number comes, of a call to a world that is the tally's. Assumes nothing.
 use mathlib.Core.Path.{_≡_, refl, sym, ap, _∙_}
 use mathlib.Core.Logic.{_≢_}
-use mathlib.Core.Bool.{Bool, true, false, _&&_, not, cond, false≢true}
+use mathlib.Core.Bool.{Bool, true, false, not, false≢true}
 use mathlib.Core.List.{List, [], _∷_, _++_}
-use Prim.Native.Nat.{ℕ, _+_, _-_, _%_, _≤_, _<_, max}
-use native.Mathlib.Omega.{arith}
-use borrow.Author.Tests.{leb-true, leb-false, le-leb, lt-leb, lt-ltb, le-ltb, eqb-true, eqb-false, eq-eqb, ne-eqb}
-use lib.Dec.{eqb, leb, ltb}
+use Prim.Native.Nat.{ℕ, _+_, _-_}
+use borrow.Author.Tests.{leb-true, le-leb, lt-leb, lt-ltb, le-ltb, eqb-true, eqb-false, eq-eqb, ne-eqb}
+use lib.Dec.{eqb, ltb}
 use lib.ListN.{length}
 use Rattle.causes.specs.Checks.{Check, numberBy, none}
-use Rattle.wire.specs.Bytes.{at16, total, put}
-use Rattle.wire.specs.Lists.{All, all}
+use Rattle.wire.specs.Lists.{all}
 use Rattle.wire.proofs.Lists.{decide, and-split}
 use Rattle.wire.proofs.Pieces.{each-all, each-fails}
 use Rattle.sort.specs.declared.event.Event.{Event}
 use Rattle.sort.specs.Event.{inRange}
 use Rattle.sample_record.specs.Record.{recordGood}
 use Rattle.samples.proofs.SelectionLaws.{slots-good}
-use Rattle.load.specs.Staging.{payload, formed, packageChecks, stagingAfter}
+use Rattle.load.specs.Staging.{formed, packageChecks, stagingAfter}
 use Rattle.command.specs.declared.command.Line.{Line}
 use Rattle.command.specs.declared.command.Line.the-variants.{Empty, Wrong}
 use Rattle.command.specs.Asked.{traitsOf, sumAgrees}
 use Rattle.command.specs.Grammar.{bytesOk, lineOf}
-use Rattle.command_list.specs.CommandList.{waitingOf}
+use Rattle.command_list.specs.declared.Waiting.{Waiting}
+use Rattle.command_list.specs.CommandList.{waitingOf, commandListWith}
 use Rattle.command_list.proofs.CommandListLaws.{waiting-with}
 use Rattle.take_event.specs.Event.{eventLent}
 use Rattle.take_line.specs.Line.{lineLent, commandChecks, sumReturned}
@@ -34,16 +33,19 @@ use Rattle.processor.specs.Close.{closeSpan, outRight}
 use Rattle.processor.specs.Listing.{listingLent}
 use Rattle.tally.specs.Steps.{Done}
 use Rattle.tally.specs.World.{World, Lending, allOwn, own}
-use Rattle.tally.specs.Calls.{Counts8, event, reading, line, loadPackage, listing, answered, listed, closedWith, writtenListing}
-use Rattle.tally.specs.Calls.{Answered, processed, processedBy, closeProcessed, singleProcessed, SingleRequest, asks, close, SingleCall, owning, processorStep}
-use Rattle.tally.specs.Tally.{Wrote, unwritten, byRight, byWrong, isWrong, Tally, eventsOf, slotsFor, selected, lentTo, loadWaitsFor, fullFor, lineFor, goodFor, sumFor}
-use Rattle.tally.specs.Tally.{eventNumberFor, readingNumberFor, lineNumberFor, packageNumberFor, closeSoundFor, closeNumberFor, listingNumberFor}
-use Rattle.tally.specs.Tally.{lineTaken, packagePlaced, sentFor, listingFor, tallied, talliedBy, closeTallied, singleTallied, tallyStep}
+use Rattle.tally.specs.Calls.{Counts8, event, reading, line, loadPackage, listing, closedWith}
+use Rattle.tally.specs.Calls.{Answered, processed, processedBy, closeProcessed, singleProcessed, SingleRequest, asks, close, owning}
+use Rattle.tally.specs.Calls.{processorStep}
+use Rattle.tally.specs.Tally.{Wrote, unwritten, byRight, byWrong, isWrong, Tally, eventsOf, slotsFor, lentTo, loadWaitsFor, fullFor}
+use Rattle.tally.specs.Tally.{lineFor, goodFor, sumFor}
+use Rattle.tally.specs.Tally.{eventNumberFor, readingNumberFor, lineNumberFor, packageNumberFor, closeSoundFor, closeNumberFor}
+use Rattle.tally.specs.Tally.{listingNumberFor}
+use Rattle.tally.specs.Tally.{lineTaken, packagePlaced, sentFor, tallied, talliedBy, closeTallied, singleTallied, tallyStep}
 use Rattle.tally.specs.View.{view}
-use Rattle.tally.specs.Demand3.{CommitWaits}
-use Rattle.tally.specs.Texts.{LineBytes, valueOf, CommandText, change, loadZero, loadAt, ask, commit, textOf}
-use Rattle.tally.specs.When.{numberOf, LentRight, LentWhen, FieldsInRange, EventWhen, ReadingWhen, Blocked, SomeBad, sumBelow, usesStaging, usesBytes, Differs}
-use Rattle.tally.specs.When.{sumBy, waitingBy, addressesBy, Accepted, CommandWhen, InRangesNow, LineWhen, PackageFormed, Placed, PackageWhen, ListingWhen, Numbers}
+use Rattle.tally.specs.Texts.{valueOf, CommandText, change, loadZero, loadAt, ask, commit, textOf}
+use Rattle.tally.specs.When.{numberOf, LentRight, LentWhen, EventWhen, ReadingWhen, Blocked, SomeBad, Differs}
+use Rattle.tally.specs.When.{sumBy, waitingBy, addressesBy, Accepted, CommandWhen, InRangesNow, LineWhen, Placed, PackageWhen}
+use Rattle.tally.specs.When.{ListingWhen}
 use Rattle.tally.proofs.StepLaws.{shown}
 use Rattle.tally.proofs.Intervals.{slots-are}
 use Rattle.tally.proofs.Invariant.{Sizes, Inv}
@@ -51,20 +53,23 @@ use Rattle.tally.proofs.Loading.{waits-loads, loads-wait}
 use Rattle.tally.proofs.Numbers.{event-number, reading-number, line-number, package-number, close-number, listing-number}
 use Rattle.tally.proofs.TextLaws.{meant, text-meant}
 use Rattle.tally.proofs.ParsedLaws.{none-written}
-use Rattle.tally.proofs.WhenLaws.{fails, two-equal, three-equal, one-where, one-only, slots-say, slots-said, fields-say, fields-said, line-says, line-said}
+use Rattle.tally.proofs.WhenLaws.{fails, two-equal, three-equal, one-where, one-only, slots-say, slots-said, fields-say, fields-said}
+use Rattle.tally.proofs.WhenLaws.{line-says, line-said}
 use Rattle.tally.proofs.WhenLaws.{command-ok, commandNumber, six, seven, fifteen, sixteen, no-number, package-says, package-said}
 
 -- ---- what is lent
 
 close-says : (t : Tally) (l : Lending) (time : ℕ) (out : List ℕ) → closeSoundFor t l out ≡ true → LentRight t l (close time out)
 close-says t l time out h =
-    let s = and-split (endLent (t .capacity) (length (lentTo t l .tables)) (length (lentTo t l .staging)) (lentTo t l .slots)) (outRight (t .capacity) (length out)) h in
-    let r = and-split _ (all recordGood (lentTo t l .slots)) (s .0) in
+    let b = lentTo t l in
+    let s = and-split (endLent (t .capacity) (length (b .tables)) (length (b .staging)) (b .slots)) (outRight (t .capacity) (length out)) h in
+    let r = and-split _ (all recordGood (b .slots)) (s .0) in
     let q = three-equal _ _ _ _ _ _ (r .0) in
-    (q .0, q .1, q .2, eqb-true _ _ (s .1), slots-say (lentTo t l .slots) (r .1))
+    (q .0, q .1, q .2, eqb-true _ _ (s .1), slots-say (b .slots) (r .1))
 
 close-said : (t : Tally) (l : Lending) (time : ℕ) (out : List ℕ) → LentRight t l (close time out) → closeSoundFor t l out ≡ true
-close-said t l time out h = rw (eq-eqb _ _ (h .0), eq-eqb _ _ (h .1), eq-eqb _ _ (h .2), eq-eqb _ _ (h .3), slots-said (lentTo t l .slots) (h .4))
+close-said t l time out h =
+    rw (eq-eqb _ _ (h .0), eq-eqb _ _ (h .1), eq-eqb _ _ (h .2), eq-eqb _ _ (h .3), slots-said (lentTo t l .slots) (h .4))
 
 reading-is : {z : Sizes} (t : Tally) → Inv z t → (l : Lending) (c : Counts8)
     → numberOf (processorStep (view t) (record { lent = l; request = asks (reading c) })) ≡ readingNumberFor t
@@ -82,7 +87,8 @@ lent-by t l a b cs e says said o = record {
 -- of each call, by the number that the tally gives it
 pub lent-when : {z : Sizes} (t : Tally) → Inv z t → (l : Lending) (a : SingleRequest)
     → LentWhen t l a (numberOf (processorStep (view t) (record { lent = l; request = a })))
-unfolding processedBy singleProcessed processed closeProcessed eventNumberFor readingNumberFor lineNumberFor packageNumberFor closeNumberFor listingNumberFor
+unfolding processedBy singleProcessed processed closeProcessed
+    eventNumberFor readingNumberFor lineNumberFor packageNumberFor closeNumberFor listingNumberFor
 lent-when t v l (asks (event e)) =
     lent-by t l (asks (event e)) (eventLent (t .capacity) (length (lentTo t l .tables)) (length (lentTo t l .slots)))
     ((inRange e, 2) ∷ (ltb (length (eventsOf t)) 1000000, 3) ∷ [])
@@ -101,7 +107,8 @@ lent-when t v l (asks (listing i time out)) =
     lent-by t l (asks (listing i time out)) (listingLent (length (lentTo t l .tables)) (length out)) ((ltb i 250, 14) ∷ [])
     (listing-number t v l i time out) (two-equal _ _ _ _) (λ h. rw (eq-eqb _ _ (h .0), eq-eqb _ _ (h .1))) refl
 lent-when t v l (close time out) =
-    lent-by t l (close time out) (closeSoundFor t l out) [] (close-number t v l time out) (close-says t l time out) (close-said t l time out) refl
+    lent-by t l (close time out) (closeSoundFor t l out) [] (close-number t v l time out)
+    (close-says t l time out) (close-said t l time out) refl
 
 -- ---- with the own buffers
 
@@ -129,7 +136,8 @@ module _ {z : Sizes} (t : Tally) (v : Inv z t) where
       taken = λ r m. simp (eq-eqb _ _ lt, eq-eqb _ _ (slots-are t v), fields-said e r, lt-ltb _ _ m);
     }
 
-    pub listing-when : (i time : ℕ) (out : List ℕ) → length out ≡ 272 → ListingWhen t i time out (doneFor (asks (listing i time out)) .answer .reply)
+    pub listing-when : (i time : ℕ) (out : List ℕ) → length out ≡ 272
+        → ListingWhen t i time out (doneFor (asks (listing i time out)) .answer .reply)
     unfolding talliedBy singleTallied tallied listingNumberFor
     listing-when i time out lo = record {
       none-of-these = λ m. simp (eq-eqb _ _ lt, eq-eqb _ _ lo, le-ltb _ _ m);
@@ -160,7 +168,9 @@ module _ {z : Sizes} (t : Tally) (v : Inv z t) where
   bad-is b = each-fails (λ i. not (isWrong (t .wrote i))) _ (b .0) (b .1) (rw (b .2))
 
   good-is : (SomeBad t → ⊥) → goodFor t own ≡ true
-  good-is n = each-all (λ i. not (isWrong (t .wrote i))) _ (λ i h. ap not (fails (isWrong (t .wrote i)) (λ q. (i, h, wrong-is (t .wrote i) q)) n))
+  good-is n =
+      each-all (λ i. not (isWrong (t .wrote i))) _
+      (λ i h. ap not (fails (isWrong (t .wrote i)) (λ q. (i, h, wrong-is (t .wrote i) q)) n))
 
   agrees-is : (x : CommandText) → (Differs t x → ⊥) → sumAgrees (traitsOf (meant x) .sum) (sumFor t own) ≡ true
   agrees-is (change k n) h = refl
@@ -183,13 +193,16 @@ module _ {z : Sizes} (t : Tally) (v : Inv z t) where
     addresses-are : w .state .staging ≡ addressesBy (t .addresses) x
     sum-is : sumReturned (meant x) (sumFor t own) ≡ sumBy t x
 
+  now-waiting : (ws : List Waiting) → waitingOf (commandListWith (t .commands .accepted + 1) ws) ≡ ws
+  now-waiting = waiting-with (t .commands .accepted + 1)
+
   left : (x : CommandText) → Left x (view (lineTaken t (meant x)))
   unfolding view
-  left (change k n) = record { counted = refl; waiting-are = waiting-with (t .commands .accepted + 1) _; addresses-are = refl; sum-is = refl }
-  left (loadZero n) = record { counted = refl; waiting-are = waiting-with (t .commands .accepted + 1) _; addresses-are = refl; sum-is = refl }
-  left (loadAt a) = record { counted = refl; waiting-are = waiting-with (t .commands .accepted + 1) _; addresses-are = refl; sum-is = refl }
-  left (ask a y) = record { counted = refl; waiting-are = waiting-with (t .commands .accepted + 1) _; addresses-are = refl; sum-is = refl }
-  left (commit a y s) = record { counted = refl; waiting-are = waiting-with (t .commands .accepted + 1) _; addresses-are = refl; sum-is = refl }
+  left (change k n) = record { counted = refl; waiting-are = now-waiting _; addresses-are = refl; sum-is = refl }
+  left (loadZero n) = record { counted = refl; waiting-are = now-waiting _; addresses-are = refl; sum-is = refl }
+  left (loadAt a) = record { counted = refl; waiting-are = now-waiting _; addresses-are = refl; sum-is = refl }
+  left (ask a y) = record { counted = refl; waiting-are = now-waiting _; addresses-are = refl; sum-is = refl }
+  left (commit a y s) = record { counted = refl; waiting-are = now-waiting _; addresses-are = refl; sum-is = refl }
 
   module _ (ls : length (t .staging) ≡ 62985) (lb : length (t .bitmap) ≡ 7874) where
     -- ---- a line
@@ -222,7 +235,8 @@ module _ {z : Sizes} (t : Tally) (v : Inv z t) where
       line-leaves bytes l n e =
           (rw n (ap (λ (x : Line). view (lineTaken t x)) e), rw n (ap (λ (x : Line). sumReturned x (sumFor t own)) e))
 
-      accepted-by : (x : CommandText) → lineNumberFor t allOwn (textOf x) echo ≡ 0 → lineFor t (textOf x) ≡ meant x → Accepted t x (lineDoneFor (textOf x))
+      accepted-by : (x : CommandText) → lineNumberFor t allOwn (textOf x) echo ≡ 0 → lineFor t (textOf x) ≡ meant x
+          → Accepted t x (lineDoneFor (textOf x))
       accepted-by x n e =
           let d = line-leaves (textOf x) (meant x) n e in
           let w = left x in
@@ -299,14 +313,16 @@ module _ {z : Sizes} (t : Tally) (v : Inv z t) where
         reach-is = ap (λ (w : World). w .state .staging .reach) e;
       }
 
-      package-placed : (n : ℕ) → packageNumberFor t allOwn p echo ≡ n → isStaged n ≡ true → (numberOf packageDoneFor ≡ n) × Placed t p packageDoneFor
+      package-placed : (n : ℕ) → packageNumberFor t allOwn p echo ≡ n → isStaged n ≡ true
+          → (numberOf packageDoneFor ≡ n) × Placed t p packageDoneFor
       package-placed n e s = (package-answers n e, placed packageDoneFor (package-leaves n e s))
 
       pub package-when : PackageWhen t p packageDoneFor
       unfolding packageNumberFor
       package-when = record {
         load-waits = λ b. package-answers 6 (rw (eq-eqb _ _ ls, eq-eqb _ _ lb, eq-eqb _ _ le, blocked-is b));
-        not-formed = λ f n. package-answers 8 (rw (eq-eqb _ _ ls, eq-eqb _ _ lb, eq-eqb _ _ le, free-is f, fails (formed p) (package-says p) n));
+        not-formed = λ f n. package-answers 8
+            (rw (eq-eqb _ _ ls, eq-eqb _ _ lb, eq-eqb _ _ le, free-is f, fails (formed p) (package-says p) n));
         past-end = λ f q m. package-answers 9 (rw (eq-eqb _ _ ls, eq-eqb _ _ lb, eq-eqb _ _ le, free-is f, package-said p q, lt-leb _ _ m));
         sum-wrong = λ f q m d. package-placed 10
             (rw (eq-eqb _ _ ls, eq-eqb _ _ lb, eq-eqb _ _ le, free-is f, package-said p q, le-leb _ _ m, ne-eqb _ _ d)) refl;

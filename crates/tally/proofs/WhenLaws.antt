@@ -1,12 +1,12 @@
 -- What the checks of each call say in the paper's words: laws over plain booleans, numbers and lists, no word of a tally. Assumes nothing.
 use mathlib.Core.Path.{_≡_, refl, sym, ap, _∙_}
-use mathlib.Core.Bool.{Bool, true, false, _&&_, _||_, not, cond, true≢false}
-use mathlib.Core.List.{List, [], _∷_, _++_, map}
+use mathlib.Core.Bool.{Bool, true, false, _&&_, _||_, not, true≢false}
+use mathlib.Core.List.{List, [], _∷_, map}
 use mathlib.Core.Logic.{_≢_, _⊎_, inl, inr, ⊎-elim}
-use Prim.Native.Nat.{ℕ, _+_, _*_, _≤_, _<_}
+use Prim.Native.Nat.{ℕ, _+_, _*_, _≤_}
 use Prim.Native.String.{String}
 use native.Mathlib.Omega.{arith}
-use borrow.Author.Tests.{leb-true, leb-false, le-leb, lt-leb, eqb-true, eq-eqb, ne-eqb, not-true}
+use borrow.Author.Tests.{leb-true, le-leb, eqb-true, eq-eqb, not-true}
 use lib.Dec.{eqb, leb}
 use lib.ListN.{length, length-append}
 use Rattle.causes.specs.Checks.{Check, numberBy, none}
@@ -23,7 +23,8 @@ use Rattle.command.specs.declared.command.Setting.the-variants.{Limhi, Eonly, T
 use Rattle.command.specs.Asked.{traitsOf, sumAgrees}
 use Rattle.command.specs.Grammar.{printable, bytesOk}
 use Rattle.take_line.specs.Line.{commandChecks}
-use Rattle.tally.specs.Texts.{LineBytes, Digits, argumentsText, lineText, CommandText, change, loadZero, loadAt, ask, commit, textOf, InRanges}
+use Rattle.tally.specs.Texts.{LineBytes, Digits, argumentsText, lineText, CommandText, change, loadZero, loadAt, ask, commit, textOf}
+use Rattle.tally.specs.Texts.{InRanges}
 use Rattle.tally.specs.When.{SlotRight, FieldsInRange, usesStaging, usesBytes, PackageFormed}
 use Rattle.tally.proofs.TextLaws.{digit, digits-all, digits-length, meant}
 
@@ -124,7 +125,8 @@ arguments-short (ds ∷ dss) h =
 arguments-shown : (dss : List (List ℕ)) → All Digits dss → all printable (argumentsText dss) ≡ true
 arguments-shown [] h = refl
 arguments-shown (ds ∷ dss) h =
-    all-append printable (map hexDigit ds) (argumentsText dss) (digits-all printable (λ d g. digit d g .shown) ds (h .0 .2)) (arguments-shown dss (h .1))
+    all-append printable (map hexDigit ds) (argumentsText dss)
+    (digits-all printable (λ d g. digit d g .shown) ds (h .0 .2)) (arguments-shown dss (h .1))
 
 text-ok : (k : String) (dss : List (List ℕ)) → All Digits dss → length (text k) ≤ 8 → all printable (text k) ≡ true → length dss ≤ 3
     → bytesOk (lineText k dss) ≡ true
@@ -172,27 +174,32 @@ module _ (x : CommandText) (waits full good : Bool) (sum : ℕ) where
   abbrev pub commandNumber : ℕ
   commandNumber = numberBy (commandChecks waits full good sum (meant x))
 
+  x-is : Traited x
+  x-is = traited x
+
   pub six : usesStaging x ≡ true → waits ≡ true → commandNumber ≡ 6
-  six u w = let t = traited x in rw (t .right, t .staging, u, w)
+  six u w = rw (x-is .right, x-is .staging, u, w)
 
   module _ (free : usesStaging x ≡ true → waits ≡ false) where
+    unblocked : (traitsOf (meant x) .staging && waits) ≡ false
+    unblocked = rw (x-is .staging) (and-no (usesStaging x) waits free)
+
     pub seven : full ≡ true → commandNumber ≡ 7
-    seven f = let t = traited x in rw (t .right, t .staging, and-no (usesStaging x) waits free, t .counted, f)
+    seven f = rw (x-is .right, unblocked, x-is .counted, f)
 
     module _ (room : full ≡ false) where
       pub fifteen : usesBytes x ≡ true → good ≡ false → commandNumber ≡ 15
-      fifteen u g = let t = traited x in rw (t .right, t .staging, and-no (usesStaging x) waits free, t .counted, room, t .load, u, g)
+      fifteen u g = rw (x-is .right, unblocked, x-is .counted, room, x-is .load, u, g)
 
       module _ (sound : usesBytes x ≡ true → not good ≡ false) where
+        unspoilt : (traitsOf (meant x) .load && not good) ≡ false
+        unspoilt = rw (x-is .load) (and-no (usesBytes x) (not good) sound)
+
         pub sixteen : sumAgrees (traitsOf (meant x) .sum) sum ≡ false → commandNumber ≡ 16
-        sixteen d =
-            let t = traited x in
-            rw (t .right, t .staging, and-no (usesStaging x) waits free, t .counted, room, t .load, and-no (usesBytes x) (not good) sound, d)
+        sixteen d = rw (x-is .right, unblocked, x-is .counted, room, unspoilt, d)
 
         pub no-number : sumAgrees (traitsOf (meant x) .sum) sum ≡ true → commandNumber ≡ 0
-        no-number d =
-            let t = traited x in
-            rw (t .right, t .staging, and-no (usesStaging x) waits free, t .counted, room, t .load, and-no (usesBytes x) (not good) sound, d)
+        no-number d = rw (x-is .right, unblocked, x-is .counted, room, unspoilt, d)
 
 -- ---- a package
 

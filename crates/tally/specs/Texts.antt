@@ -92,3 +92,20 @@ InRanges reach limhi (loadZero n) = Digits n × (valueOf n ≡ 0)
 InRanges reach limhi (loadAt a) = Digits a × (valueOf a ≤ reach)
 InRanges reach limhi (ask a y) = Digits a × Digits y × Loadable reach (valueOf a) (valueOf y)
 InRanges reach limhi (commit a y sum) = Digits a × Digits y × Digits sum × Loadable reach (valueOf a) (valueOf y)
+
+-- ---- a text of each form, and an ask that is right wherever something is staged
+
+abbrev pub textCases : List (CommandText × String)
+textCases =
+    (change Limhi (2 ∷ 12 ∷ 0 ∷ []), "limhi 2c0")
+    ∷ (change Hvstep (15 ∷ 15 ∷ []), "hvstep ff")
+    ∷ (loadZero (0 ∷ []), "load 0")
+    ∷ (loadAt (1 ∷ 10 ∷ []), "loadat 1a")
+    ∷ (ask (7 ∷ 0 ∷ 0 ∷ 0 ∷ []) (0 ∷ []), "ask 7000 0")
+    ∷ (commit (12 ∷ 2 ∷ 0 ∷ 2 ∷ []) (1 ∷ []) (15 ∷ 15 ∷ []), "commit c202 1 ff")
+    ∷ []
+
+pub record TextsAre : Type 0 where
+  pub texts : map (λ (x : CommandText × String). textOf (x .0)) textCases ≡ map (λ (x : CommandText × String). text (x .1)) textCases
+  pub value : valueOf (12 ∷ 2 ∷ 0 ∷ 2 ∷ []) ≡ 0xC202
+  pub whole-tables : (reach limhi : ℕ) → 1 ≤ reach → reach ≤ 62985 → InRanges reach limhi (ask (7 ∷ 0 ∷ 0 ∷ 0 ∷ []) (0 ∷ []))

@@ -22,7 +22,8 @@ use Rattle.output.specs.Output.{spanBytes}
 use Rattle.processor.specs.Close.{closeSpan}
 use Rattle.tally.specs.Steps.{Done, after, Lawful}
 use Rattle.tally.specs.World.{World, freshWorld, Lending}
-use Rattle.tally.specs.Calls.{Counts8, event, reading, line, loadPackage, listing, Reply, answered, listed, closedWith, writtenListing}
+use Rattle.tally.specs.Calls.{Counts8, event, reading, line, loadPackage, listing, Reply, answered, listed, closedWith}
+use Rattle.tally.specs.Calls.{writtenListing}
 use Rattle.tally.specs.Calls.{Answered, SingleRequest, asks, close, SingleCall, owning, processorStep}
 use Rattle.tally.specs.Tally.{byWrong, Tally, freshTally, eventsOf, slotsFor, lentTo, sentFor, listingFor, tallyStep}
 use Rattle.tally.specs.Demand3.{CommitWaits}
@@ -37,13 +38,16 @@ numberOf d = d .answer .reply .number
 abbrev pub SlotRight : ℕ → Type 0
 SlotRight x = (x ≡ 0) ⊎ ((6 ≤ recordBox x) × (recordBox x ≤ 116))
 
--- the lengths of what each call is lent: tables and staging 62,985 bytes, bitmap 7,874, echo 128, slots and output by the capacity, and
--- 272 bytes for a listing
+-- of a line and of a package: "Staging is 62,985 lent bytes", a bit for each, "The echo buffer has 128 bytes"
+abbrev pub StagingLent : Tally → Lending → (echo : List ℕ) → Type 0
+StagingLent t l echo = (length (lentTo t l .staging) ≡ 62985) × (length (lentTo t l .bitmap) ≡ 7874) × (length echo ≡ 128)
+
+-- the lengths of what each call is lent: tables of 62,985 bytes, slots and a close's output by the capacity, 272 bytes for a listing
 abbrev pub LentRight : Tally → Lending → SingleRequest → Type 0
 LentRight t l (asks (event e)) = (length (lentTo t l .tables) ≡ 62985) × (length (lentTo t l .slots) ≡ slotsFor t)
 LentRight t l (asks (reading c)) = Unit {0}
-LentRight t l (asks (line bytes echo)) = (length (lentTo t l .staging) ≡ 62985) × (length (lentTo t l .bitmap) ≡ 7874) × (length echo ≡ 128)
-LentRight t l (asks (loadPackage p echo)) = (length (lentTo t l .staging) ≡ 62985) × (length (lentTo t l .bitmap) ≡ 7874) × (length echo ≡ 128)
+LentRight t l (asks (line bytes echo)) = StagingLent t l echo
+LentRight t l (asks (loadPackage p echo)) = StagingLent t l echo
 LentRight t l (asks (listing i time out)) = (length (lentTo t l .tables) ≡ 62985) × (length out ≡ 272)
 LentRight t l (close time out) =
     (length (lentTo t l .tables) ≡ 62985) × (length (lentTo t l .staging) ≡ 62985) × (length (lentTo t l .slots) ≡ slotsFor t)
@@ -144,18 +148,21 @@ pub record Accepted (t : Tally) (x : CommandText) (d : Done World Answered) : Ty
   pub waiting-are : waitingOf (d .next .state .commands) ≡ t .commands .waiting ++ waitingBy x
   pub addresses-are : d .next .state .staging ≡ addressesBy (t .addresses) x
 
+-- no load waits where the command uses staging
+abbrev pub Free : Tally → CommandText → Type 0
+Free t x = usesStaging x ≡ true → Blocked t → ⊥
+
 -- a line that is the text of a command in its ranges
 pub record CommandWhen (t : Tally) (x : CommandText) (d : Done World Answered) : Type 0 where
   -- "a load waits"
   pub load-waits : usesStaging x ≡ true → Blocked t → numberOf d ≡ 6
   -- "32 commands this frame"
-  pub after-most : (usesStaging x ≡ true → Blocked t → ⊥) → 32 ≤ t .commands .accepted → numberOf d ≡ 7
+  pub after-most : Free t x → 32 ≤ t .commands .accepted → numberOf d ≡ 7
   -- "15 when a staged byte is bad, after 7"
-  pub byte-bad : (usesStaging x ≡ true → Blocked t → ⊥) → t .commands .accepted < 32 → usesBytes x ≡ true → SomeBad t → numberOf d ≡ 15
+  pub byte-bad : Free t x → t .commands .accepted < 32 → usesBytes x ≡ true → SomeBad t → numberOf d ≡ 15
   -- "16 when commit's sum differs .., after 15"
-  pub sum-differs : (usesStaging x ≡ true → Blocked t → ⊥) → t .commands .accepted < 32 → (SomeBad t → ⊥) → Differs t x → numberOf d ≡ 16
-  pub accepted : (usesStaging x ≡ true → Blocked t → ⊥) → t .commands .accepted < 32 → (usesBytes x ≡ true → SomeBad t → ⊥)
-      → (Differs t x → ⊥) → Accepted t x d
+  pub sum-differs : Free t x → t .commands .accepted < 32 → (SomeBad t → ⊥) → Differs t x → numberOf d ≡ 16
+  pub accepted : Free t x → t .commands .accepted < 32 → (usesBytes x ≡ true → SomeBad t → ⊥) → (Differs t x → ⊥) → Accepted t x d
 
 abbrev pub InRangesNow : Tally → CommandText → Type 0
 InRangesNow t x = InRanges (t .addresses .reach) (numbersOf (t .capacity) .limhi) x
@@ -165,7 +172,8 @@ pub record LineWhen (t : Tally) (d : (bytes : List ℕ) → Done World Answered)
   -- "line over 80 or other byte"
   pub other-bytes : (bytes : List ℕ) → (LineBytes bytes → ⊥) → numberOf (d bytes) ≡ 4
   -- "unknown keyword, wrong argument": the text of no command in its ranges
-  pub wrong : (bytes : List ℕ) → LineBytes bytes → bytes ≢ [] → ((x : CommandText) → InRangesNow t x → bytes ≢ textOf x) → numberOf (d bytes) ≡ 5
+  pub wrong : (bytes : List ℕ) → LineBytes bytes → bytes ≢ [] → ((x : CommandText) → InRangesNow t x → bytes ≢ textOf x)
+      → numberOf (d bytes) ≡ 5
   -- "Empty line: .. it answers 0 and is no command, also after 32"
   pub empty : numberOf (d []) ≡ 0
   pub none-counted : d [] .next .state .commands .accepted ≡ t .commands .accepted
@@ -177,11 +185,15 @@ pub record LineWhen (t : Tally) (d : (bytes : List ℕ) → Done World Answered)
 abbrev pub PackageFormed : (p : List ℕ) → Type 0
 PackageFormed p = (2 ≤ length p) × (2 ≤ at16 p 0) × (length p ≡ at16 p 0 + 2)
 
+-- where it ends in staging
+abbrev pub endOf : Tally → (p : List ℕ) → ℕ
+endOf t p = t .addresses .next + (at16 p 0 - 2)
+
 -- "Bytes go to the next address, which moves past them, reach too"
 pub record Placed (t : Tally) (p : List ℕ) (d : Done World Answered) : Type 0 where
   pub staging-is : d .next .buffers .staging ≡ put (t .staging) (t .addresses .next) (payload p)
-  pub next-is : d .next .state .staging .next ≡ t .addresses .next + (at16 p 0 - 2)
-  pub reach-is : d .next .state .staging .reach ≡ max (t .addresses .reach) (t .addresses .next + (at16 p 0 - 2))
+  pub next-is : d .next .state .staging .next ≡ endOf t p
+  pub reach-is : d .next .state .staging .reach ≡ max (t .addresses .reach) (endOf t p)
 
 pub record PackageWhen (t : Tally) (p : List ℕ) (d : Done World Answered) : Type 0 where
   -- "a load waits (.. package)"
@@ -189,11 +201,11 @@ pub record PackageWhen (t : Tally) (p : List ℕ) (d : Done World Answered) : Ty
   -- "no N, N below 2 or not matching the bytes"
   pub not-formed : (Blocked t → ⊥) → (PackageFormed p → ⊥) → numberOf d ≡ 8
   -- "package passes staging's end"
-  pub past-end : (Blocked t → ⊥) → PackageFormed p → 62985 < t .addresses .next + (at16 p 0 - 2) → numberOf d ≡ 9
+  pub past-end : (Blocked t → ⊥) → PackageFormed p → 62985 < endOf t p → numberOf d ≡ 9
   -- "package sum wrong": such a package is placed too
-  pub sum-wrong : (Blocked t → ⊥) → PackageFormed p → t .addresses .next + (at16 p 0 - 2) ≤ 62985 → receivedSum p ≢ total (payload p) % 65536
+  pub sum-wrong : (Blocked t → ⊥) → PackageFormed p → endOf t p ≤ 62985 → receivedSum p ≢ total (payload p) % 65536
       → (numberOf d ≡ 10) × Placed t p d
-  pub right : (Blocked t → ⊥) → PackageFormed p → t .addresses .next + (at16 p 0 - 2) ≤ 62985 → receivedSum p ≡ total (payload p) % 65536
+  pub right : (Blocked t → ⊥) → PackageFormed p → endOf t p ≤ 62985 → receivedSum p ≡ total (payload p) % 65536
       → (numberOf d ≡ 0) × Placed t p d
 
 -- ---- a listing
@@ -215,7 +227,8 @@ pub record Numbers (t : Tally) (d : SingleCall → Done World Answered) : Type 0
   -- a close is never refused
   pub closes : (time : ℕ) (out : List ℕ) → length out ≡ spanBytes (closeSpan (t .capacity))
       → d (owning (close time out)) .answer .reply ≡ closedWith (sentFor t time)
-  pub listings : (i time : ℕ) (out : List ℕ) → length out ≡ 272 → ListingWhen t i time out (d (owning (asks (listing i time out))) .answer .reply)
+  pub listings : (i time : ℕ) (out : List ℕ) → length out ≡ 272
+      → ListingWhen t i time out (d (owning (asks (listing i time out))) .answer .reply)
 
 -- from a fresh processor of every capacity, tables, staging and bitmap of their lengths, after every lawful list of calls
 abbrev pub numbersWhen : Type 0
