@@ -5,7 +5,7 @@ use mathlib.Core.Bool.{true}
 use mathlib.Core.List.{List, _++_}
 use Prim.Native.Nat.{ℕ, zero, suc, _+_, _*_, _≤_, _<_}
 use native.Mathlib.Omega.{arith}
-use borrow.Author.Tests.{leb-true}
+use borrow.Author.Tests.{leb-true, eq-eqb}
 use lib.ListN.{length, take, drop}
 use lib.Seq.{take-add, take-all}
 use Rattle.wire.specs.Bytes.{words}
@@ -30,11 +30,12 @@ use Rattle.state.proofs.LimitLaws.{state-limits}
 use Rattle.output.specs.Output.{written}
 use Rattle.output.proofs.OutputLaws.{totals-fit, boxes-fit, beacons-fit, Lengths, slotsIn, slots-length}
 use Rattle.output.proofs.OutputLaws.{written-length, rate-placed, sample-placed, beacon-placed}
-use Rattle.processor.specs.Close.{closeDone}
+use Rattle.processor.specs.Close.{closeNumber, closeDone}
 use Rattle.processor.proofs.CallLaws.{close-accepted}
 use Rattle.tally.specs.World.{World}
 use Rattle.tally.specs.Calls.{Sent, sentIn}
-use Rattle.downlink.specs.Downlink.{recordsRead, ReceivedWhole, Fits, PacketsReceived, Typed, CloseReceived}
+use Rattle.tally.proofs.WhenLaws.{slots-said}
+use Rattle.downlink.specs.Downlink.{recordsRead, ReceivedWhole, Fits, PacketsReceived, Typed, CloseReceived, CloseCarried}
 
 -- ---- any packets whose values are in range
 
@@ -139,3 +140,15 @@ close-received w time out y h =
     let c = close-accepted (w .state) _ _ (w .buffers .slots) _ h in
     let f = world-fits w time y (c .limits) (c .lent .slots-are) (c .lent .slots-good) in
     rw h (whole-received (sentIn w time) f (omega (arith, c .lent .slots-are, slots-in-packets (w .state .capacity))))
+
+pub close-carried : CloseCarried
+unfolding closeDone closeNumber
+close-carried w time out h =
+    rw (
+      h .limits,
+      eq-eqb _ _ (h .tables-are),
+      eq-eqb _ _ (h .staging-is),
+      eq-eqb _ _ (h .slots-are),
+      eq-eqb _ _ (h .out-is),
+      slots-said (w .buffers .slots) (h .slots-right),
+    )

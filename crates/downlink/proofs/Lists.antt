@@ -16,13 +16,13 @@ use Rattle.tally.specs.Calls.{Sent, Listing, writtenListing, Answered, processo
 use Rattle.tally.specs.Tally.{Tally, freshTally, eventsOf, slotsFor, sentFor, tallyStep}
 use Rattle.tally.specs.View.{viewState, view}
 use Rattle.tally.specs.Demand3.{ClosedInterval, ListedPart, Right}
-use Rattle.tally.proofs.Corollaries.{now-inv, close-now}
+use Rattle.tally.proofs.Corollaries.{now-inv, close-now, listing-now}
 use Rattle.tally.proofs.Intervals.{slots-are}
 use Rattle.tally.proofs.Invariant.{Sizes, Inv}
 use Rattle.tally.proofs.Requests.{sent-at}
 use Rattle.tally.proofs.StepLaws.{each}
 use Rattle.tally.proofs.Theorem.{step, sizes, fresh-view, fresh-inv}
-use Rattle.downlink.specs.Downlink.{ReceivedWhole, Fits, Typed, Listed, Brought, ListReceived, NextReceived}
+use Rattle.downlink.specs.Downlink.{ReceivedWhole, Fits, Typed, Listed, Brought, ListReceived, NextReceived, NextListed}
 use Rattle.downlink.proofs.Closed.{whole-received, world-fits}
 use Rattle.downlink.proofs.Listed.{listing-listed}
 use Rattle.downlink.proofs.Ranges.{tally-typed}
@@ -78,4 +78,16 @@ next-received c tables staging bitmap lt ls cs l time out ht lo =
     record {
       carried = ap (λ r. r .number) q;
       received = subst (ReceivedWhole (sentFor t time)) (sym (ap (λ r. r .out) q)) (tally-received t (now-inv c tables staging bitmap cs l) time ht);
+    }
+
+-- ---- the next listing
+
+pub next-listed : NextListed
+next-listed c tables staging bitmap lt cs l i time out h lo =
+    let t = after tallyStep (freshTally c tables staging bitmap) cs in
+    let q = listing-now c tables staging bitmap cs l lt i time out lo .is-written h in
+    record {
+      carried = ap (λ r. r .number) q;
+      listed = subst (Listed (t .tables) i) (sym (ap (λ r. r .out) q))
+          (listing-listed _ time i h (t .tables) (now-inv c tables staging bitmap cs l .sized .tables-are ∙ lt));
     }

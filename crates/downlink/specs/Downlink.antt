@@ -9,6 +9,7 @@ use Rattle.wire.specs.Bytes.{words}
 use Rattle.wire.specs.Lists.{All, EachBelow, all}
 use Rattle.boxes.specs.Boxes.{boxCount, beaconCount, totalCount}
 use Rattle.capacity.specs.declared.Capacity.{Capacity}
+use Rattle.capacity.specs.Capacity.{numbersOf}
 use Rattle.sample_record.specs.Record.{recordGood}
 use Rattle.tables.specs.Tables.{tableBytes}
 use Rattle.load.specs.Staging.{stagingBytes}
@@ -20,13 +21,15 @@ use Rattle.ground.specs.Ground.{readOf, recordsOf}
 use Rattle.listing_packet.specs.Listing.{gatherNumber}
 use Rattle.ground.specs.Theorems.{rateRead, sampleRead, beaconRead}
 use Rattle.gatherer.specs.GatherTheorems.{ListingOf}
+use Rattle.state.specs.Limits.{withinLimits}
 use Rattle.output.specs.Ended.{Ended}
 use Rattle.output.specs.Output.{spanBytes, written, packetAt, ratePlace, samplePlace, beaconPlace}
 use Rattle.processor.specs.Close.{closeSpan}
 use Rattle.tally.specs.Steps.{Done, after, Lawful, Each}
-use Rattle.tally.specs.World.{World, freshWorld, allOwn}
-use Rattle.tally.specs.Calls.{close, SingleCall, Reply, Sent, Answered, closeIn, listingIn, sentIn, processorStep}
+use Rattle.tally.specs.World.{World, freshWorld}
+use Rattle.tally.specs.Calls.{listing, asks, close, SingleCall, owning, Reply, Sent, Answered, closeIn, listingIn, sentIn, processorStep}
 use Rattle.tally.specs.Tally.{Tally, freshTally, sentFor, tallyStep}
+use Rattle.tally.specs.When.{SlotRight}
 
 -- ---- the output in packets
 
@@ -94,6 +97,19 @@ CloseReceived =
     (w : World) (time : ℕ) (out : List ℕ) → Typed (sentIn w time .ended)
     → closeIn w time out .answer .number ≡ carriedOut → ReceivedWhole (sentIn w time) (closeIn w time out .out)
 
+-- which it is where the state is within its limits and all that is lent is right: tables and staging of 62,985 bytes, slots and output by
+-- the capacity, and "each slot zero or of box 6 to 116"
+pub record CloseRight (w : World) (out : List ℕ) : Type 0 where
+  pub limits : withinLimits (w .state) ≡ true
+  pub tables-are : length (w .buffers .tables) ≡ 62985
+  pub staging-is : length (w .buffers .staging) ≡ 62985
+  pub slots-are : length (w .buffers .slots) ≡ numbersOf (w .state .capacity) .slots
+  pub slots-right : All SlotRight (w .buffers .slots)
+  pub out-is : length out ≡ spanBytes (closeSpan (w .state .capacity))
+
+abbrev pub CloseCarried : Type 0
+CloseCarried = (w : World) (time : ℕ) (out : List ℕ) → CloseRight w out → closeIn w time out .answer .number ≡ 0
+
 -- ---- of every listing that is carried out
 
 -- the gatherer takes it as packet i of these tables
@@ -105,6 +121,12 @@ abbrev pub ListingReceived : Type 0
 ListingReceived =
     (w : World) (i time : ℕ) (out : List ℕ) → listingIn w i time out .number ≡ carriedOut
     → Listed (w .buffers .tables) i (listingIn w i time out .out)
+
+-- which it is where the state is within its limits, tables and output have their lengths, and i is one "0 to 249"
+abbrev pub ListingCarried : Type 0
+ListingCarried =
+    (w : World) (i time : ℕ) (out : List ℕ) → withinLimits (w .state) ≡ true → length (w .buffers .tables) ≡ 62985 → length out ≡ 272
+    → i < 250 → listingIn w i time out .number ≡ 0
 
 -- ---- of every list of calls to a fresh processor
 
@@ -132,4 +154,18 @@ NextReceived =
     → (time : ℕ) (out : List ℕ) → time < 4294967296
     → length out ≡ spanBytes (closeSpan (after tallyStep (freshTally c tables staging bitmap) cs .capacity))
     → CarriedDown (after tallyStep (freshTally c tables staging bitmap) cs) time
-    (processorStep (after processorStep (freshWorld c tables staging bitmap) cs) (record { lent = allOwn; request = close time out }) .answer .reply)
+    (processorStep (after processorStep (freshWorld c tables staging bitmap) cs) (owning (close time out)) .answer .reply)
+
+-- a listing after any such list, where tables and output have their lengths and i is one of the 250: carried out, and gathered as packet i
+-- of the tally's tables
+pub record ListedDown (t : Tally) (i : ℕ) (r : Reply) : Type 0 where
+  pub carried : r .number ≡ 0
+  pub listed : Listed (t .tables) i (r .out)
+
+abbrev pub NextListed : Type 0
+NextListed =
+    (c : Capacity) (tables staging bitmap : List ℕ) → length tables ≡ 62985
+    → (cs : List SingleCall) → Lawful processorStep (freshWorld c tables staging bitmap) cs
+    → (i time : ℕ) (out : List ℕ) → i < 250 → length out ≡ 272
+    → ListedDown (after tallyStep (freshTally c tables staging bitmap) cs) i
+    (processorStep (after processorStep (freshWorld c tables staging bitmap) cs) (owning (asks (listing i time out))) .answer .reply)
