@@ -57,59 +57,6 @@ use Rattle.tally.proofs.WhenLaws.{fails, two-equal, three-equal, one-wh
 use Rattle.tally.proofs.WhenLaws.{line-says, line-said}
 use Rattle.tally.proofs.WhenLaws.{command-ok, commandNumber, six, seven, fifteen, sixteen, no-number, package-says, package-said}
 
--- ---- what is lent
-
-close-says : (t : Tally) (l : Lending) (time : ℕ) (out : List ℕ) → closeSoundFor t l out ≡ true → LentRight t l (close time out)
-close-says t l time out h =
-    let b = lentTo t l in
-    let s = and-split (endLent (t .capacity) (length (b .tables)) (length (b .staging)) (b .slots)) (outRight (t .capacity) (length out)) h in
-    let r = and-split _ (all recordGood (b .slots)) (s .0) in
-    let q = three-equal _ _ _ _ _ _ (r .0) in
-    (q .0, q .1, q .2, eqb-true _ _ (s .1), slots-say (b .slots) (r .1))
-
-close-said : (t : Tally) (l : Lending) (time : ℕ) (out : List ℕ) → LentRight t l (close time out) → closeSoundFor t l out ≡ true
-close-said t l time out h =
-    rw (eq-eqb _ _ (h .0), eq-eqb _ _ (h .1), eq-eqb _ _ (h .2), eq-eqb _ _ (h .3), slots-said (lentTo t l .slots) (h .4))
-
-reading-is : {z : Sizes} (t : Tally) → Inv z t → (l : Lending) (c : Counts8)
-    → numberOf (processorStep (view t) (record { lent = l; request = asks (reading c) })) ≡ readingNumberFor t
-unfolding processedBy singleProcessed processed view readingDone
-reading-is t v l c = reading-number t v l
-
--- by a first check of what is lent, and those behind it, none of which has the number 1
-lent-by : (t : Tally) (l : Lending) (a : SingleRequest) (b : Bool) (cs : List Check) {n : ℕ} → n ≡ numberBy ((b, 1) ∷ cs)
-    → (b ≡ true → LentRight t l a) → (LentRight t l a → b ≡ true) → none (λ k. eqb k 1) cs ≡ true → LentWhen t l a n
-lent-by t l a b cs e says said o = record {
-  other-length = λ n. e ∙ one-where _ b cs says said n;
-  right-lengths = λ h q. one-only _ b cs says said o h (sym e ∙ q);
-}
-
--- of each call, by the number that the tally gives it
-pub lent-when : {z : Sizes} (t : Tally) → Inv z t → (l : Lending) (a : SingleRequest)
-    → LentWhen t l a (numberOf (processorStep (view t) (record { lent = l; request = a })))
-unfolding processedBy singleProcessed processed closeProcessed
-    eventNumberFor readingNumberFor lineNumberFor packageNumberFor closeNumberFor listingNumberFor
-lent-when t v l (asks (event e)) =
-    lent-by t l (asks (event e)) (eventLent (t .capacity) (length (lentTo t l .tables)) (length (lentTo t l .slots)))
-    ((inRange e, 2) ∷ (ltb (length (eventsOf t)) 1000000, 3) ∷ [])
-    (event-number t v l e) (two-equal _ _ _ _) (λ h. rw (eq-eqb _ _ (h .0), eq-eqb _ _ (h .1))) refl
-lent-when t v l (asks (reading c)) =
-    lent-by t l (asks (reading c)) true ((ltb (length (t .interval .readings)) 60, 3) ∷ []) (reading-is t v l c) (λ q. tt) (λ h. refl) refl
-lent-when t v l (asks (line bytes echo)) =
-    lent-by t l (asks (line bytes echo)) (lineLent (length (lentTo t l .staging)) (length (lentTo t l .bitmap)) (length echo))
-    ((bytesOk bytes, 4) ∷ commandChecks (loadWaitsFor t) (fullFor t) (goodFor t (l .bitmap)) (sumFor t (l .staging)) (lineFor t bytes))
-    (line-number t v l bytes echo) (three-equal _ _ _ _ _ _) (λ h. rw (eq-eqb _ _ (h .0), eq-eqb _ _ (h .1), eq-eqb _ _ (h .2))) refl
-lent-when t v l (asks (loadPackage p echo)) =
-    lent-by t l (asks (loadPackage p echo)) (packageLent (length (lentTo t l .staging)) (length (lentTo t l .bitmap)) (length echo))
-    ((not (loadWaitsFor t), 6) ∷ packageChecks p (t .addresses .next))
-    (package-number t v l p echo) (three-equal _ _ _ _ _ _) (λ h. rw (eq-eqb _ _ (h .0), eq-eqb _ _ (h .1), eq-eqb _ _ (h .2))) refl
-lent-when t v l (asks (listing i time out)) =
-    lent-by t l (asks (listing i time out)) (listingLent (length (lentTo t l .tables)) (length out)) ((ltb i 250, 14) ∷ [])
-    (listing-number t v l i time out) (two-equal _ _ _ _) (λ h. rw (eq-eqb _ _ (h .0), eq-eqb _ _ (h .1))) refl
-lent-when t v l (close time out) =
-    lent-by t l (close time out) (closeSoundFor t l out) [] (close-number t v l time out)
-    (close-says t l time out) (close-said t l time out) refl
-
 -- ---- with the own buffers
 
 -- the byte's writer
@@ -329,3 +276,56 @@ module _ {z : Sizes} (t : Tally) (v : Inv z t) where
         right = λ f q m d. package-placed 0
             (rw (eq-eqb _ _ ls, eq-eqb _ _ lb, eq-eqb _ _ le, free-is f, package-said p q, le-leb _ _ m, eq-eqb _ _ d)) refl;
       }
+
+-- ---- what is lent
+
+close-says : (t : Tally) (l : Lending) (time : ℕ) (out : List ℕ) → closeSoundFor t l out ≡ true → LentRight t l (close time out)
+close-says t l time out h =
+    let b = lentTo t l in
+    let s = and-split (endLent (t .capacity) (length (b .tables)) (length (b .staging)) (b .slots)) (outRight (t .capacity) (length out)) h in
+    let r = and-split _ (all recordGood (b .slots)) (s .0) in
+    let q = three-equal _ _ _ _ _ _ (r .0) in
+    (q .0, q .1, q .2, eqb-true _ _ (s .1), slots-say (b .slots) (r .1))
+
+close-said : (t : Tally) (l : Lending) (time : ℕ) (out : List ℕ) → LentRight t l (close time out) → closeSoundFor t l out ≡ true
+close-said t l time out h =
+    rw (eq-eqb _ _ (h .0), eq-eqb _ _ (h .1), eq-eqb _ _ (h .2), eq-eqb _ _ (h .3), slots-said (lentTo t l .slots) (h .4))
+
+reading-is : {z : Sizes} (t : Tally) → Inv z t → (l : Lending) (c : Counts8)
+    → numberOf (processorStep (view t) (record { lent = l; request = asks (reading c) })) ≡ readingNumberFor t
+unfolding processedBy singleProcessed processed view readingDone
+reading-is t v l c = reading-number t v l
+
+-- by a first check of what is lent, and those behind it, none of which has the number 1
+lent-by : (t : Tally) (l : Lending) (a : SingleRequest) (b : Bool) (cs : List Check) {n : ℕ} → n ≡ numberBy ((b, 1) ∷ cs)
+    → (b ≡ true → LentRight t l a) → (LentRight t l a → b ≡ true) → none (λ k. eqb k 1) cs ≡ true → LentWhen t l a n
+lent-by t l a b cs e says said o = record {
+  other-length = λ n. e ∙ one-where _ b cs says said n;
+  right-lengths = λ h q. one-only _ b cs says said o h (sym e ∙ q);
+}
+
+-- of each call, by the number that the tally gives it
+pub lent-when : {z : Sizes} (t : Tally) → Inv z t → (l : Lending) (a : SingleRequest)
+    → LentWhen t l a (numberOf (processorStep (view t) (record { lent = l; request = a })))
+unfolding processedBy singleProcessed processed closeProcessed
+    eventNumberFor readingNumberFor lineNumberFor packageNumberFor closeNumberFor listingNumberFor
+lent-when t v l (asks (event e)) =
+    lent-by t l (asks (event e)) (eventLent (t .capacity) (length (lentTo t l .tables)) (length (lentTo t l .slots)))
+    ((inRange e, 2) ∷ (ltb (length (eventsOf t)) 1000000, 3) ∷ [])
+    (event-number t v l e) (two-equal _ _ _ _) (λ h. rw (eq-eqb _ _ (h .0), eq-eqb _ _ (h .1))) refl
+lent-when t v l (asks (reading c)) =
+    lent-by t l (asks (reading c)) true ((ltb (length (t .interval .readings)) 60, 3) ∷ []) (reading-is t v l c) (λ q. tt) (λ h. refl) refl
+lent-when t v l (asks (line bytes echo)) =
+    lent-by t l (asks (line bytes echo)) (lineLent (length (lentTo t l .staging)) (length (lentTo t l .bitmap)) (length echo))
+    ((bytesOk bytes, 4) ∷ commandChecks (loadWaitsFor t) (fullFor t) (goodFor t (l .bitmap)) (sumFor t (l .staging)) (lineFor t bytes))
+    (line-number t v l bytes echo) (three-equal _ _ _ _ _ _) (λ h. rw (eq-eqb _ _ (h .0), eq-eqb _ _ (h .1), eq-eqb _ _ (h .2))) refl
+lent-when t v l (asks (loadPackage p echo)) =
+    lent-by t l (asks (loadPackage p echo)) (packageLent (length (lentTo t l .staging)) (length (lentTo t l .bitmap)) (length echo))
+    ((not (loadWaitsFor t), 6) ∷ packageChecks p (t .addresses .next))
+    (package-number t v l p echo) (three-equal _ _ _ _ _ _) (λ h. rw (eq-eqb _ _ (h .0), eq-eqb _ _ (h .1), eq-eqb _ _ (h .2))) refl
+lent-when t v l (asks (listing i time out)) =
+    lent-by t l (asks (listing i time out)) (listingLent (length (lentTo t l .tables)) (length out)) ((ltb i 250, 14) ∷ [])
+    (listing-number t v l i time out) (two-equal _ _ _ _) (λ h. rw (eq-eqb _ _ (h .0), eq-eqb _ _ (h .1))) refl
+lent-when t v l (close time out) =
+    lent-by t l (close time out) (closeSoundFor t l out) [] (close-number t v l time out)
+    (close-says t l time out) (close-said t l time out) refl
