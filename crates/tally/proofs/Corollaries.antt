@@ -57,8 +57,8 @@ module _ (c : Capacity) (tables staging bitmap : List ℕ) (cs : List SingleCall
     tables-now = now-inv .sized .tables-are ∙ lt
 
     -- an event in its ranges is refused only after 1,000,000 events since the last close
-    pub event-now : (e : Event) → EventWhen now e (nextNow (owning (asks (event e))) .answer .reply)
-    event-now e = as-tallied (λ d. EventWhen now e (d .answer .reply)) (asks (event e)) (event-when now now-inv tables-now e)
+    pub event-now : (e : Event) → EventWhen now e (nextNow (owning (asks (event e))))
+    event-now e = as-tallied (EventWhen now e) (asks (event e)) (event-when now now-inv tables-now e)
 
     -- a listing is refused only where i is none of the 250, and brings down the tally's tables
     pub listing-now : (i time : ℕ) (out : List ℕ) → length out ≡ 272
@@ -83,7 +83,7 @@ module _ (c : Capacity) (tables staging bitmap : List ℕ) (cs : List SingleCall
         lent = λ k a. subst (λ (w : World). LentWhen now k a (numberOf (processorStep w (record { lent = k; request = a }))))
             (sym (demand-3 c tables staging bitmap cs l .followed .ending)) (lent-when now now-inv k a);
         events = event-now lt;
-        readings = λ r. as-tallied (λ d. ReadingWhen now (d .answer .reply)) (asks (reading r)) (reading-when now now-inv r);
+        readings = λ r. as-tallied (ReadingWhen now r) (asks (reading r)) (reading-when now now-inv r);
         lines = λ echo le. line-now echo (line-when now now-inv s b echo le);
         packages = λ p echo le. as-tallied (PackageWhen now p) (asks (loadPackage p echo)) (package-when now now-inv s b p echo le);
         closes = close-now lt ls;

@@ -59,7 +59,7 @@ unfolding total
 total-snoc f [] r = omega arith
 total-snoc f (x ∷ xs) r = omega (arith, total-snoc f xs r)
 
-totals-snoc : (rs : List (List ℕ)) (counts : List ℕ) → addedTotals (totalsBy rs) counts ≡ totalsBy (rs ++ counts ∷ [])
+pub totals-snoc : (rs : List (List ℕ)) (counts : List ℕ) → addedTotals (totalsBy rs) counts ≡ totalsBy (rs ++ counts ∷ [])
 unfolding totalsBy
 totals-snoc rs counts = same-table totalCount _ _ sums
   where

@@ -1,16 +1,16 @@
 -- When each number comes, of a call to a world that is the tally's. Assumes nothing.
 use mathlib.Core.Path.{_≡_, refl, sym, ap, _∙_}
 use mathlib.Core.Logic.{_≢_}
-use mathlib.Core.Bool.{Bool, true, false, not, false≢true}
+use mathlib.Core.Bool.{Bool, true, false, not, cond, false≢true}
 use mathlib.Core.List.{List, [], _∷_, _++_}
-use Prim.Native.Nat.{ℕ, _+_, _-_}
+use Prim.Native.Nat.{ℕ, _+_, _-_, _<_}
 use borrow.Author.Tests.{leb-true, le-leb, lt-leb, lt-ltb, le-ltb, eqb-true, eqb-false, eq-eqb, ne-eqb}
 use lib.Dec.{eqb, ltb}
-use lib.ListN.{length}
+use lib.ListN.{length, getD, length-append}
 use Rattle.causes.specs.Checks.{Check, numberBy, none}
 use Rattle.wire.specs.Lists.{all}
 use Rattle.wire.proofs.Lists.{decide, and-split}
-use Rattle.wire.proofs.Pieces.{each-all, each-fails}
+use Rattle.wire.proofs.Pieces.{table-at, each-all, each-fails}
 use Rattle.sort.specs.declared.event.Event.{Event}
 use Rattle.sort.specs.Event.{inRange}
 use Rattle.sample_record.specs.Record.{recordGood}
@@ -33,17 +33,17 @@ use Rattle.processor.specs.Close.{closeSpan, outRight}
 use Rattle.processor.specs.Listing.{listingLent}
 use Rattle.tally.specs.Steps.{Done}
 use Rattle.tally.specs.World.{World, Lending, allOwn, own}
-use Rattle.tally.specs.Calls.{Counts8, event, reading, line, loadPackage, listing, closedWith}
+use Rattle.tally.specs.Calls.{Counts8, event, reading, line, loadPackage, listing, answered, closedWith}
 use Rattle.tally.specs.Calls.{Answered, processed, processedBy, closeProcessed, singleProcessed, SingleRequest, asks, close, owning}
 use Rattle.tally.specs.Calls.{processorStep}
 use Rattle.tally.specs.Tally.{Wrote, unwritten, byRight, byWrong, isWrong, Tally, eventsOf, slotsFor, lentTo, loadWaitsFor, fullFor}
-use Rattle.tally.specs.Tally.{lineFor, goodFor, sumFor}
+use Rattle.tally.specs.Tally.{totalsOf, lineFor, goodFor, sumFor, eventJoined, read}
 use Rattle.tally.specs.Tally.{eventNumberFor, readingNumberFor, lineNumberFor, packageNumberFor, closeSoundFor, closeNumberFor}
 use Rattle.tally.specs.Tally.{listingNumberFor}
 use Rattle.tally.specs.Tally.{lineTaken, packagePlaced, sentFor, tallied, talliedBy, closeTallied, singleTallied, tallyStep}
 use Rattle.tally.specs.View.{view}
 use Rattle.tally.specs.Texts.{valueOf, CommandText, change, loadZero, loadAt, ask, commit, textOf}
-use Rattle.tally.specs.When.{numberOf, LentRight, LentWhen, EventWhen, ReadingWhen, Blocked, SomeBad, Differs}
+use Rattle.tally.specs.When.{replyOf, numberOf, FieldsInRange, LentRight, LentWhen, EventWhen, ReadingWhen, Blocked, SomeBad, Differs}
 use Rattle.tally.specs.When.{sumBy, waitingBy, addressesBy, Accepted, CommandWhen, InRangesNow, LineWhen, Placed, PackageWhen}
 use Rattle.tally.specs.When.{ListingWhen}
 use Rattle.tally.proofs.StepLaws.{shown}
@@ -51,6 +51,7 @@ use Rattle.tally.proofs.Intervals.{slots-are}
 use Rattle.tally.proofs.Invariant.{Sizes, Inv}
 use Rattle.tally.proofs.Loading.{waits-loads, loads-wait}
 use Rattle.tally.proofs.Numbers.{event-number, reading-number, line-number, package-number, close-number, listing-number}
+use Rattle.tally.proofs.States.{totals-snoc}
 use Rattle.tally.proofs.TextLaws.{meant, text-meant}
 use Rattle.tally.proofs.ParsedLaws.{none-written}
 use Rattle.tally.proofs.WhenLaws.{fails, two-equal, three-equal, one-where, one-only, slots-say, slots-said, fields-say, fields-said}
@@ -70,17 +71,57 @@ module _ {z : Sizes} (t : Tally) (v : Inv z t) where
   abbrev pub doneFor : SingleRequest → Done World Answered
   doneFor a = shown view (tallyStep t (owning a))
 
-  pub reading-when : (c : Counts8) → ReadingWhen t (doneFor (asks (reading c)) .answer .reply)
+  reading-left : (c : Counts8) → length (t .interval .readings) < 60 → doneFor (asks (reading c)) .next ≡ view (read t (c .counts))
   unfolding talliedBy singleTallied tallied readingNumberFor
-  reading-when c = record { after-most = λ m. simp (le-ltb _ _ m); taken = λ m. simp (lt-ltb _ _ m) }
+  reading-left c m = simp (lt-ltb _ _ m)
+
+  reading-more : (c : Counts8) → view (read t (c .counts)) .state .interval .readings ≡ length (t .interval .readings) + 1
+  unfolding view
+  reading-more c = length-append (t .interval .readings) (c .counts ∷ [])
+
+  totals-more : (c : Counts8) (i : ℕ) → i < 8
+      → getD (view (read t (c .counts)) .state .interval .totals) i 0 ≡ getD (totalsOf t) i 0 + getD (c .counts) i 0
+  unfolding view
+  totals-more c i h =
+      ap (λ (l : List ℕ). getD l i 0) (sym (totals-snoc (t .interval .readings) (c .counts)))
+      ∙ table-at (λ k. getD (totalsOf t) k 0 + getD (c .counts) k 0) 8 i h
+
+  reading-answers : (c : Counts8) (b : Bool) → ltb (length (t .interval .readings)) 60 ≡ b
+      → replyOf (doneFor (asks (reading c))) ≡ answered (cond b 0 3)
+  unfolding talliedBy singleTallied tallied readingNumberFor
+  reading-answers c true q = simp q
+  reading-answers c false q = simp q
+
+  pub reading-when : (c : Counts8) → ReadingWhen t c (doneFor (asks (reading c)))
+  reading-when c = record {
+    after-most = λ m. reading-answers c false (le-ltb _ _ m);
+    taken = λ m. reading-answers c true (lt-ltb _ _ m);
+    counted = λ m. ap (λ (w : World). w .state .interval .readings) (reading-left c m) ∙ reading-more c;
+    added = λ m i h. ap (λ (w : World). getD (w .state .interval .totals) i 0) (reading-left c m) ∙ totals-more c i h;
+  }
 
   module _ (lt : length (t .tables) ≡ 62985) where
-    pub event-when : (e : Event) → EventWhen t e (doneFor (asks (event e)) .answer .reply)
+    event-answers : (e : Event) (b c : Bool) → inRange e ≡ b → ltb (length (eventsOf t)) 1000000 ≡ c
+        → replyOf (doneFor (asks (event e))) ≡ answered (cond b (cond c 0 3) 2)
     unfolding talliedBy singleTallied tallied eventNumberFor
+    event-answers e true true r q = simp (eq-eqb _ _ lt, eq-eqb _ _ (slots-are t v), r, q)
+    event-answers e true false r q = simp (eq-eqb _ _ lt, eq-eqb _ _ (slots-are t v), r, q)
+    event-answers e false c r q = simp (eq-eqb _ _ lt, eq-eqb _ _ (slots-are t v), r)
+
+    event-left : (e : Event) → FieldsInRange e → length (eventsOf t) < 1000000 → doneFor (asks (event e)) .next ≡ view (eventJoined t e)
+    unfolding talliedBy singleTallied tallied eventNumberFor
+    event-left e r m = simp (eq-eqb _ _ lt, eq-eqb _ _ (slots-are t v), fields-said e r, lt-ltb _ _ m)
+
+    event-more : (e : Event) → view (eventJoined t e) .state .interval .taken ≡ length (eventsOf t) + 1
+    unfolding view
+    event-more e = length-append (eventsOf t) (e ∷ [])
+
+    pub event-when : (e : Event) → EventWhen t e (doneFor (asks (event e)))
     event-when e = record {
-      over-range = λ n. simp (eq-eqb _ _ lt, eq-eqb _ _ (slots-are t v), fails (inRange e) (fields-say e) n);
-      after-most = λ r m. simp (eq-eqb _ _ lt, eq-eqb _ _ (slots-are t v), fields-said e r, le-ltb _ _ m);
-      taken = λ r m. simp (eq-eqb _ _ lt, eq-eqb _ _ (slots-are t v), fields-said e r, lt-ltb _ _ m);
+      over-range = λ n. event-answers e false _ (fails (inRange e) (fields-say e) n) refl;
+      after-most = λ r m. event-answers e true false (fields-said e r) (le-ltb _ _ m);
+      taken = λ r m. event-answers e true true (fields-said e r) (lt-ltb _ _ m);
+      counted = λ r m. ap (λ (w : World). w .state .interval .taken) (event-left e r m) ∙ event-more e;
     }
 
     pub listing-when : (i time : ℕ) (out : List ℕ) → length out ≡ 272

@@ -6,7 +6,7 @@ use mathlib.Core.Logic.{_≢_, _⊎_}
 use mathlib.Core.Bool.{Bool, true, false}
 use mathlib.Core.List.{List, [], _∷_, _++_}
 use Prim.Native.Nat.{ℕ, _+_, _-_, _%_, _≤_, _<_, max}
-use lib.ListN.{length, take}
+use lib.ListN.{length, getD, take}
 use Rattle.wire.specs.Bytes.{at16, total, put}
 use Rattle.wire.specs.Lists.{All}
 use Rattle.capacity.specs.declared.Capacity.{Capacity}
@@ -25,12 +25,15 @@ use Rattle.tally.specs.World.{World, freshWorld, Lending}
 use Rattle.tally.specs.Calls.{Counts8, event, reading, line, loadPackage, listing, Reply, answered, listed, closedWith}
 use Rattle.tally.specs.Calls.{writtenListing}
 use Rattle.tally.specs.Calls.{Answered, SingleRequest, asks, close, SingleCall, owning, processorStep}
-use Rattle.tally.specs.Tally.{byWrong, Tally, freshTally, eventsOf, slotsFor, lentTo, sentFor, listingFor, tallyStep}
+use Rattle.tally.specs.Tally.{byWrong, Tally, freshTally, eventsOf, slotsFor, totalsOf, lentTo, sentFor, listingFor, tallyStep}
 use Rattle.tally.specs.Demand3.{CommitWaits}
 use Rattle.tally.specs.Texts.{LineBytes, valueOf, CommandText, change, loadZero, loadAt, ask, commit, textOf, InRanges}
 
+abbrev pub replyOf : Done World Answered → Reply
+replyOf d = d .answer .reply
+
 abbrev pub numberOf : Done World Answered → ℕ
-numberOf d = d .answer .reply .number
+numberOf d = replyOf d .number
 
 -- ---- what is lent: "lent buffer (not line, package or packet) of other length"
 
@@ -64,19 +67,25 @@ pub record LentWhen (t : Tally) (l : Lending) (a : SingleRequest) (n : ℕ) : Ty
 abbrev pub FieldsInRange : Event → Type 0
 FieldsInRange e = (e .t ≤ 511) × (e .high ≤ 4095) × (e .low ≤ 2047)
 
-pub record EventWhen (t : Tally) (e : Event) (r : Reply) : Type 0 where
+pub record EventWhen (t : Tally) (e : Event) (d : Done World Answered) : Type 0 where
   -- "event field over its range"
-  pub over-range : (FieldsInRange e → ⊥) → r ≡ answered 2
+  pub over-range : (FieldsInRange e → ⊥) → replyOf d ≡ answered 2
   -- "event after 1,000,000 events"
-  pub after-most : FieldsInRange e → 1000000 ≤ length (eventsOf t) → r ≡ answered 3
-  pub taken : FieldsInRange e → length (eventsOf t) < 1000000 → r ≡ answered 0
+  pub after-most : FieldsInRange e → 1000000 ≤ length (eventsOf t) → replyOf d ≡ answered 3
+  pub taken : FieldsInRange e → length (eventsOf t) < 1000000 → replyOf d ≡ answered 0
+  -- and it is one event more
+  pub counted : FieldsInRange e → length (eventsOf t) < 1000000 → d .next .state .interval .taken ≡ length (eventsOf t) + 1
 
 -- ---- a reading
 
-pub record ReadingWhen (t : Tally) (r : Reply) : Type 0 where
+pub record ReadingWhen (t : Tally) (c : Counts8) (d : Done World Answered) : Type 0 where
   -- "reading after 60 readings"
-  pub after-most : 60 ≤ length (t .interval .readings) → r ≡ answered 3
-  pub taken : length (t .interval .readings) < 60 → r ≡ answered 0
+  pub after-most : 60 ≤ length (t .interval .readings) → replyOf d ≡ answered 3
+  pub taken : length (t .interval .readings) < 60 → replyOf d ≡ answered 0
+  pub counted : length (t .interval .readings) < 60 → d .next .state .interval .readings ≡ length (t .interval .readings) + 1
+  -- "A reading adds eight 16-bit counts to eight totals"
+  pub added : length (t .interval .readings) < 60 → (i : ℕ) → i < 8
+      → getD (d .next .state .interval .totals) i 0 ≡ getD (totalsOf t) i 0 + getD (c .counts) i 0
 
 -- ---- a line
 
@@ -142,7 +151,7 @@ addressesBy s (commit a y sum) = s
 
 pub record Accepted (t : Tally) (x : CommandText) (d : Done World Answered) : Type 0 where
   pub number-is : numberOf d ≡ 0
-  pub sum-is : d .answer .reply .sum ≡ sumBy t x
+  pub sum-is : replyOf d .sum ≡ sumBy t x
   -- "The sequence counts accepted commands"
   pub counted : d .next .state .commands .accepted ≡ t .commands .accepted + 1
   pub waiting-are : waitingOf (d .next .state .commands) ≡ t .commands .waiting ++ waitingBy x
@@ -220,15 +229,15 @@ pub record ListingWhen (t : Tally) (i time : ℕ) (out : List ℕ) (r : Reply) :
 -- what the next call answers, with the own buffers but in `lent`, and with echo and output of the right length
 pub record Numbers (t : Tally) (d : SingleCall → Done World Answered) : Type 0 where
   pub lent : (l : Lending) (a : SingleRequest) → LentWhen t l a (numberOf (d (record { lent = l; request = a })))
-  pub events : (e : Event) → EventWhen t e (d (owning (asks (event e))) .answer .reply)
-  pub readings : (c : Counts8) → ReadingWhen t (d (owning (asks (reading c))) .answer .reply)
+  pub events : (e : Event) → EventWhen t e (d (owning (asks (event e))))
+  pub readings : (c : Counts8) → ReadingWhen t c (d (owning (asks (reading c))))
   pub lines : (echo : List ℕ) → length echo ≡ 128 → LineWhen t (λ bytes. d (owning (asks (line bytes echo))))
   pub packages : (p echo : List ℕ) → length echo ≡ 128 → PackageWhen t p (d (owning (asks (loadPackage p echo))))
   -- a close is never refused
   pub closes : (time : ℕ) (out : List ℕ) → length out ≡ spanBytes (closeSpan (t .capacity))
-      → d (owning (close time out)) .answer .reply ≡ closedWith (sentFor t time)
+      → replyOf (d (owning (close time out))) ≡ closedWith (sentFor t time)
   pub listings : (i time : ℕ) (out : List ℕ) → length out ≡ 272
-      → ListingWhen t i time out (d (owning (asks (listing i time out))) .answer .reply)
+      → ListingWhen t i time out (replyOf (d (owning (asks (listing i time out)))))
 
 -- from a fresh processor of every capacity, tables, staging and bitmap of their lengths, after every lawful list of calls
 abbrev pub numbersWhen : Type 0
