@@ -1,21 +1,24 @@
 -- When each number comes, of a call to a world that is the tally's. Assumes nothing.
 use mathlib.Core.Path.{_≡_, refl, sym, ap, _∙_}
 use mathlib.Core.Logic.{_≢_}
-use mathlib.Core.Bool.{Bool, true, false, not, cond, false≢true}
+use mathlib.Core.Bool.{Bool, true, false, _&&_, not, cond, false≢true}
 use mathlib.Core.List.{List, [], _∷_, _++_}
-use Prim.Native.Nat.{ℕ, _+_, _-_, _<_}
+use Prim.Native.Nat.{ℕ, _+_, _-_, _≤_, _<_}
+use native.Mathlib.Omega.{arith}
 use borrow.Author.Tests.{leb-true, le-leb, lt-leb, lt-ltb, le-ltb, eqb-true, eqb-false, eq-eqb, ne-eqb}
-use lib.Dec.{eqb, ltb}
+use lib.Dec.{eqb, leb, ltb}
 use lib.ListN.{length, getD, length-append}
 use Rattle.causes.specs.Checks.{Check, numberBy, none}
 use Rattle.wire.specs.Lists.{all}
-use Rattle.wire.proofs.Lists.{decide, and-split}
+use Rattle.wire.proofs.Lists.{decide, and-false, and-split}
 use Rattle.wire.proofs.Pieces.{table-at, each-all, each-fails}
 use Rattle.sort.specs.declared.event.Event.{Event}
 use Rattle.sort.specs.Event.{inRange}
 use Rattle.sample_record.specs.Record.{recordGood}
 use Rattle.samples.proofs.SelectionLaws.{slots-good}
-use Rattle.load.specs.Staging.{formed, packageChecks, stagingAfter}
+use Rattle.load.specs.Bitmap.{isBad}
+use Rattle.load.specs.Staging.{receivedSum, computedSum, formed, packageChecks, stagingAfter}
+use Rattle.load.proofs.BitmapLaws.{bitmap-tells}
 use Rattle.command.specs.declared.command.Line.{Line}
 use Rattle.command.specs.declared.command.Line.the-variants.{Empty, Wrong}
 use Rattle.command.specs.Asked.{traitsOf, sumAgrees}
@@ -43,7 +46,8 @@ use Rattle.tally.specs.Tally.{listingNumberFor}
 use Rattle.tally.specs.Tally.{lineTaken, packagePlaced, sentFor, tallied, talliedBy, closeTallied, singleTallied, tallyStep}
 use Rattle.tally.specs.View.{view}
 use Rattle.tally.specs.Texts.{valueOf, CommandText, change, loadZero, loadAt, ask, commit, textOf}
-use Rattle.tally.specs.When.{replyOf, numberOf, FieldsInRange, LentRight, LentWhen, EventWhen, ReadingWhen, Blocked, SomeBad, Differs}
+use Rattle.tally.specs.When.{replyOf, numberOf, FieldsInRange, endOf, LentRight, LentWhen, EventWhen, ReadingWhen, Blocked, SomeBad}
+use Rattle.tally.specs.When.{Differs}
 use Rattle.tally.specs.When.{sumBy, waitingBy, addressesBy, Accepted, CommandWhen, InRangesNow, LineWhen, Placed, PackageWhen}
 use Rattle.tally.specs.When.{ListingWhen}
 use Rattle.tally.proofs.StepLaws.{shown}
@@ -293,17 +297,30 @@ module _ {z : Sizes} (t : Tally) (v : Inv z t) where
       unfolding talliedBy singleTallied tallied
       package-leaves n e s = rw (e, s)
 
-      placed : (d : Done World Answered) → d .next ≡ view (packagePlaced t p) → Placed t p d
-      unfolding view stagingAfter
-      placed d e = record {
-        staging-is = ap (λ (w : World). w .buffers .staging) e;
-        next-is = ap (λ (w : World). w .state .staging .next) e;
-        reach-is = ap (λ (w : World). w .state .staging .reach) e;
-      }
+      -- the bits after it, where it fits
+      bits : endOf t p ≤ 62985 → (i : ℕ)
+          → isBad (view (packagePlaced t p) .buffers .bitmap) i
+          ≡ cond (leb (t .addresses .next) i && ltb i (endOf t p)) (not (eqb (receivedSum p) (computedSum p))) (isBad (t .bitmap) i)
+      unfolding view
+      bits m i = bitmap-tells (t .bitmap) (t .addresses .next) i (not (eqb (receivedSum p) (computedSum p))) _ (omega (arith, m, lb))
 
-      package-placed : (n : ℕ) → packageNumberFor t allOwn p echo ≡ n → isStaged n ≡ true
-          → (numberOf packageDoneFor ≡ n) × Placed t p packageDoneFor
-      package-placed n e s = (package-answers n e, placed packageDoneFor (package-leaves n e s))
+      placed : (bad : Bool) (d : Done World Answered) → d .next ≡ view (packagePlaced t p) → endOf t p ≤ 62985
+          → not (eqb (receivedSum p) (computedSum p)) ≡ bad → Placed t p bad d
+      unfolding view stagingAfter
+      placed bad d e m b =
+          let w : (i : ℕ) → isBad (d .next .buffers .bitmap) i ≡ _ = λ i. ap (λ (w : World). isBad (w .buffers .bitmap) i) e ∙ bits m i in
+          record {
+            staging-is = ap (λ (w : World). w .buffers .staging) e;
+            next-is = ap (λ (w : World). w .state .staging .next) e;
+            reach-is = ap (λ (w : World). w .state .staging .reach) e;
+            marked = λ i h k. w i ∙ rw (le-leb (t .addresses .next) i h, lt-ltb i (endOf t p) k) b;
+            before = λ i h. w i ∙ rw (lt-leb (t .addresses .next) i h);
+            behind = λ i h. w i ∙ rw (le-ltb i (endOf t p) h, and-false);
+          }
+
+      package-placed : (n : ℕ) (bad : Bool) → packageNumberFor t allOwn p echo ≡ n → isStaged n ≡ true → endOf t p ≤ 62985
+          → not (eqb (receivedSum p) (computedSum p)) ≡ bad → (numberOf packageDoneFor ≡ n) × Placed t p bad packageDoneFor
+      package-placed n bad e s m b = (package-answers n e, placed bad packageDoneFor (package-leaves n e s) m b)
 
       pub package-when : PackageWhen t p packageDoneFor
       unfolding packageNumberFor
@@ -312,10 +329,10 @@ module _ {z : Sizes} (t : Tally) (v : Inv z t) where
         not-formed = λ f n. package-answers 8
             (rw (eq-eqb _ _ ls, eq-eqb _ _ lb, eq-eqb _ _ le, free-is f, fails (formed p) (package-says p) n));
         past-end = λ f q m. package-answers 9 (rw (eq-eqb _ _ ls, eq-eqb _ _ lb, eq-eqb _ _ le, free-is f, package-said p q, lt-leb _ _ m));
-        sum-wrong = λ f q m d. package-placed 10
-            (rw (eq-eqb _ _ ls, eq-eqb _ _ lb, eq-eqb _ _ le, free-is f, package-said p q, le-leb _ _ m, ne-eqb _ _ d)) refl;
-        right = λ f q m d. package-placed 0
-            (rw (eq-eqb _ _ ls, eq-eqb _ _ lb, eq-eqb _ _ le, free-is f, package-said p q, le-leb _ _ m, eq-eqb _ _ d)) refl;
+        sum-wrong = λ f q m d. package-placed 10 true
+            (rw (eq-eqb _ _ ls, eq-eqb _ _ lb, eq-eqb _ _ le, free-is f, package-said p q, le-leb _ _ m, ne-eqb _ _ d)) refl m (ap not (ne-eqb _ _ d));
+        right = λ f q m d. package-placed 0 false
+            (rw (eq-eqb _ _ ls, eq-eqb _ _ lb, eq-eqb _ _ le, free-is f, package-said p q, le-leb _ _ m, eq-eqb _ _ d)) refl m (ap not (eq-eqb _ _ d));
       }
 
 -- ---- what is lent

@@ -14,6 +14,7 @@ use Rattle.capacity.specs.Capacity.{numbersOf}
 use Rattle.sample_record.specs.Record.{recordBox}
 use Rattle.sort.specs.declared.event.Event.{Event}
 use Rattle.load.specs.declared.staging.Addresses.{Addresses}
+use Rattle.load.specs.Bitmap.{isBad}
 use Rattle.load.specs.Staging.{payload, receivedSum}
 use Rattle.command.specs.declared.command.Command.the-variants.{Set, Load}
 use Rattle.command_list.specs.declared.Waiting.{Waiting}
@@ -199,10 +200,14 @@ abbrev pub endOf : Tally → (p : List ℕ) → ℕ
 endOf t p = t .addresses .next + (at16 p 0 - 2)
 
 -- "Bytes go to the next address, which moves past them, reach too"
-pub record Placed (t : Tally) (p : List ℕ) (d : Done World Answered) : Type 0 where
+pub record Placed (t : Tally) (p : List ℕ) (bad : Bool) (d : Done World Answered) : Type 0 where
   pub staging-is : d .next .buffers .staging ≡ put (t .staging) (t .addresses .next) (payload p)
   pub next-is : d .next .state .staging .next ≡ endOf t p
   pub reach-is : d .next .state .staging .reach ≡ max (t .addresses .reach) (endOf t p)
+  -- its bytes are bad or not by its sum, the others as before
+  pub marked : (i : ℕ) → t .addresses .next ≤ i → i < endOf t p → isBad (d .next .buffers .bitmap) i ≡ bad
+  pub before : (i : ℕ) → i < t .addresses .next → isBad (d .next .buffers .bitmap) i ≡ isBad (t .bitmap) i
+  pub behind : (i : ℕ) → endOf t p ≤ i → isBad (d .next .buffers .bitmap) i ≡ isBad (t .bitmap) i
 
 pub record PackageWhen (t : Tally) (p : List ℕ) (d : Done World Answered) : Type 0 where
   -- "a load waits (.. package)"
@@ -213,9 +218,9 @@ pub record PackageWhen (t : Tally) (p : List ℕ) (d : Done World Answered) : Ty
   pub past-end : (Blocked t → ⊥) → PackageFormed p → 62985 < endOf t p → numberOf d ≡ 9
   -- "package sum wrong": such a package is placed too
   pub sum-wrong : (Blocked t → ⊥) → PackageFormed p → endOf t p ≤ 62985 → receivedSum p ≢ total (payload p) % 65536
-      → (numberOf d ≡ 10) × Placed t p d
+      → (numberOf d ≡ 10) × Placed t p true d
   pub right : (Blocked t → ⊥) → PackageFormed p → endOf t p ≤ 62985 → receivedSum p ≡ total (payload p) % 65536
-      → (numberOf d ≡ 0) × Placed t p d
+      → (numberOf d ≡ 0) × Placed t p false d
 
 -- ---- a listing
 
