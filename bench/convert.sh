@@ -1,55 +1,55 @@
 #!/usr/bin/env bash
 # Instructions (callgrind) and time of convert, both ways, and its memory: the proved program beside the plain one, same
-# archives, same machine.
-#   bench/convert.sh
-# Needs Debian's packages valgrind and time. Instructions: an archive of 100,000 packets, by the packet. Time: 37 such
-# archives in a row, a gigabyte, the least of 9 runs.
+# archives, same machine. Exits 1 where the budget of time is not met.
+#   bench/convert.sh [FOLDER]
+# Measures the program convert of FOLDER; without it it is proved and built. Needs Debian's packages valgrind and time.
+# Instructions: an archive of 100,000 packets, by the packet. Time: 37 such archives in a row, a gigabyte, the least of 15 runs.
 set -eu
 cd "$(dirname "$0")/.."
-rt check convert > /dev/null
-(cd reference && cargo build --release --offline --quiet)
-plain=$PWD/reference/target/release/convert
-proved=$PWD/target/bin/convert
+source bench/measure.sh
+ready "${1:-}" convert
 packets=100000
-work=$(mktemp -d)
-trap 'rm -rf "$work"' EXIT
+runs=15
 reference/target/release/streams --archive 1 $packets "$work"
 mv "$work/archive" "$work/second"
-"$plain" second < "$work/second" > "$work/first" 2> /dev/null
+"$work/plain/convert" second < "$work/second" > "$work/first" 2> /dev/null
 for way in second first; do
     for _ in {1..37}; do cat "$work/$way"; done > "$work/$way.gigabyte"
+    interleaved $runs $way.gigabyte convert $way
 done
 
-# instructions PROGRAM WAY: by the packet
-instructions() {
-    valgrind --tool=callgrind --callgrind-out-file=/dev/null "$1" "$2" < "$work/$2" 2>&1 > /dev/null |
-        awk -v packets=$packets '/Collected :/ { printf "%.0f", $NF / packets }'
+# by_packet SIDE WAY: instructions
+by_packet() {
+    echo $(($(instructions "$1" "$2" convert "$2") / packets))
 }
 
-# milliseconds PROGRAM WAY: of a gigabyte
+# milliseconds SIDE WAY: of a gigabyte
 milliseconds() {
-    local least=0 before after
-    for _ in {1..9}; do
-        before=$(date +%s%N)
-        "$1" "$2" < "$work/$2.gigabyte" > /dev/null 2>&1
-        after=$(date +%s%N)
-        if [ $least = 0 ] || [ $((after - before)) -lt $least ]; then least=$((after - before)); fi
-    done
-    echo $((least / 1000000))
+    echo $((${least["$1 $2.gigabyte convert"]} / 1000000))
 }
 
-# kilobytes PROGRAM: the most memory that a run on a gigabyte holds
-kilobytes() {
-    command time -o "$work/memory" -f %M "$1" second < "$work/second.gigabyte" > /dev/null 2>&1
-    cat "$work/memory"
-}
-
-# row NAME PROGRAM: both ways, and the memory
+# row NAME FUNCTION WAY: of both programs, and their ratio
 row() {
-    printf '%-8s %14s %14s %14s %14s %10s\n' "$1" \
-        "$(instructions "$2" second)" "$(milliseconds "$2" second)" "$(instructions "$2" first)" "$(milliseconds "$2" first)" "$(kilobytes "$2")"
+    local plain proved
+    plain=$($2 plain "$3")
+    proved=$($2 proved "$3")
+    printf '%-44s %12s %12s %8s\n' "$1" "$plain" "$proved" "$(quotient "$proved" "$plain")"
 }
 
-printf '%-8s %14s %14s %14s %14s %10s\n' "" "second, instr" "second, ms/GB" "first, instr" "first, ms/GB" "kB"
-row plain "$plain"
-row proved "$proved"
+# ratio WAY: of the times
+ratio() {
+    quotient "$(milliseconds proved "$1")" "$(milliseconds plain "$1")"
+}
+
+printf '%-44s %12s %12s %8s\n' "" plain proved ratio
+for way in second first; do
+    row "to the $way, instructions a packet" by_packet $way
+    row "to the $way, milliseconds a gigabyte" milliseconds $way
+done
+printf '%-44s %12s %12s\n' kilobytes "$(kilobytes plain second.gigabyte convert second)" \
+    "$(kilobytes proved second.gigabyte convert second)"
+
+printf '\nBudgets, time by that of plain Rust\n'
+budget "to the second edition" "$(ratio second)" 0.9
+budget "to the first edition" "$(ratio first)" 0.9
+exit $failed

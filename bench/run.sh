@@ -1,93 +1,98 @@
 #!/usr/bin/env bash
-# Instructions (callgrind) and time of an event and of a close, and the memory of a run: the proved `minute` beside the
-# second implementation in plain Rust, same streams, same machine.
-#   bench/run.sh
-# Needs Debian's packages valgrind and time. An event: the stream of 1,000,000 events of one interval, less an empty stream.
-# A close: a stream of closes with 704 filled slots, less the same stream without its closes; in time, pairs of runs
-# until their difference stands above the noise (close_time.py).
+# Instructions (callgrind) and time of an event, a close, a package, an ask and a load, and the memory of a run: the proved
+# programs beside the second implementation in plain Rust, same streams, same machine. Exits 1 where a budget is not met.
+#   bench/run.sh [FOLDER]
+# Measures the programs minute and replay of FOLDER; without it they are proved and built. Needs Debian's packages valgrind and
+# time. Each figure is the difference of two streams, with the work and without it (streams.py), by how often it is done; times
+# are the least of 25 runs.
 set -eu
 cd "$(dirname "$0")/.."
-rt check minute > /dev/null
-(cd reference && cargo build --release --offline --quiet)
-plain=$PWD/reference/target/release
-closes=500
-timed=2000
-work=$(mktemp -d)
-trap 'rm -rf "$work"' EXIT
-"$plain/streams" 2 0 "$work/events" --minute --million
-"$plain/streams" 2 0 "$work/closes" --minute --full $closes
-"$plain/streams" 2 0 "$work/unclosed" --minute --unclosed $closes
-"$plain/streams" 2 0 "$work/timed" --minute --full $timed
-"$plain/streams" 2 0 "$work/untimed" --minute --unclosed $timed
-mkdir "$work/empty"
-cp "$work/events/tables.bin" "$work/empty"
-: > "$work/empty/stdin"
-events=$(($(stat -c %s "$work/events/stdin") / 8))
+source bench/measure.sh
+ready "${1:-}" minute replay
+cp reference/target/release/minute_judged "$work/plain"
+closes=2000
+repeats=20
+runs=25
+bytes=62984
+words=20995
 
-# instructions PROGRAM STREAM
-instructions() {
-    (cd "$work/$2" && valgrind --tool=callgrind --callgrind-out-file=/dev/null "$1" < stdin 2>&1 > /dev/null) |
-        sed -n 's/.*Collected : //p'
+# stream NAME OPTION..: a stream of the second implementation's generator
+stream() {
+    reference/target/release/streams 2 0 "$work" --minute "${@:2}"
+    mv "$work/stdin" "$work/$1"
+}
+stream events.with --million
+: > "$work/events.less"
+stream filled.with --full 500
+stream filled.less --unclosed 500
+python3 bench/streams.py "$work" $closes $repeats
+events=$(($(stat -c %s "$work/events.with") / 8))
+
+# counted SIDE STREAM PROGRAM TIMES: instructions of the work, once
+counted() {
+    echo $((($(instructions "$1" "$2.with" "$3") - $(instructions "$1" "$2.less" "$3")) / $4))
 }
 
-# nanoseconds PROGRAM STREAM: the least of 25 runs
-nanoseconds() {
-    local least=0 before after
-    for _ in {1..25}; do
-        before=$(date +%s%N)
-        (cd "$work/$2" && "$1" < stdin > /dev/null)
-        after=$(date +%s%N)
-        if [ $least = 0 ] || [ $((after - before)) -lt $least ]; then least=$((after - before)); fi
-    done
-    echo $least
-}
-
-# kilobytes PROGRAM STREAM: the most memory that a run holds
-kilobytes() {
-    (cd "$work/$2" && command time -f %M "$1" < stdin 2>&1 > /dev/null)
-}
-
-# row NAME PROGRAM: four figures, by the event and by the close
+# row NAME STREAM PROGRAM TIMES: instructions of both and their ratio; the proved ones are kept in proved[STREAM].
+declare -A proved
 row() {
-    local figures=() empty ready close noise pairs
-    empty=$(instructions "$2" empty)
-    ready=$(nanoseconds "$2" empty)
-    figures+=($((($(instructions "$2" events) - empty) / events)))
-    figures+=($((($(instructions "$2" closes) - $(instructions "$2" unclosed)) / closes)))
-    figures+=($((($(nanoseconds "$2" events) - ready) / events)))
-    read -r close noise pairs <<< "$(python3 bench/close_time.py "$2" "$work/timed" "$work/untimed" $timed)"
-    figures+=("$close")
-    printf '%-34s %12s %12s %12s %12s   +- %s in %s pairs\n' \
-        "$1" "${figures[0]}" "${figures[2]}" "${figures[1]}" "${figures[3]}" "$noise" "$pairs"
-    last=("${figures[@]}")
+    local plain
+    plain=$(counted plain "${@:2}")
+    proved[$2]=$(counted proved "${@:2}")
+    printf '%-44s %12s %12s %8s\n' "$1" "$plain" "${proved[$2]}" "$(quotient "${proved[$2]}" "$plain")"
 }
 
-# memory NAME PROGRAM: on no input, the events and the closes
+# passed SIDE STREAM PROGRAM TIMES: nanoseconds of the work, once
+passed() {
+    echo $(((${least["$1 $2.with $3"]} - ${least["$1 $2.less $3"]}) / $4))
+}
+
+# time_row NAME STREAM PROGRAM TIMES: the same in nanoseconds
+time_row() {
+    interleaved $runs "$2.with" "$3"
+    interleaved $runs "$2.less" "$3"
+    local plain proved
+    plain=$(passed plain "${@:2}")
+    proved=$(passed proved "${@:2}")
+    printf '%-44s %12s %12s %8s\n' "$1" "$plain" "$proved" "$(quotient "$proved" "$plain")"
+}
+
+# memory NAME INPUT PROGRAM
 memory() {
-    printf '%-34s %12s %12s %12s\n' "$1" "$(kilobytes "$2" empty)" "$(kilobytes "$2" events)" "$(kilobytes "$2" closes)"
+    printf '%-44s %12s %12s\n' "$1" "$(kilobytes plain "$2" "$3")" "$(kilobytes proved "$2" "$3")"
 }
 
-# ratio NAME A.. : the proved figures by those of a row, two decimals
-ratio() {
-    local name=$1 i out=()
-    shift
-    local of=("$@")
-    for i in 0 2 1 3; do
-        out+=("$(awk -v a="${proved[$i]}" -v b="${of[$i]}" 'BEGIN { printf "%.2f", a / b }')")
-    done
-    printf '%-34s %12s %12s %12s %12s\n' "$name" "${out[@]}"
-}
+printf '%-44s %12s %12s %8s\n' instructions plain proved ratio
+row "event (minute)" events minute "$events"
+row "close, 704 filled slots (minute)" filled minute 500
+row "close, empty slots (minute)" closes minute $closes
+row "close, 704 filled slots, printed (replay)" printed replay $closes
+row "704 filled slots above empty ones (replay)" fuller replay $closes
+row "package of 62,984 bytes, right sum" package replay $repeats
+row "package of 62,984 bytes, wrong sum" wrong replay $repeats
+row "ask over 62,984 bytes" ask replay $repeats
+row "load of the whole table, y 0" load0 replay $repeats
+row "load of 20,995 words, y 1" load1 replay $repeats
+row "load of 20,995 words, y 2" load2 replay $repeats
+printf '%-44s %12s\n' "event, plain by value and judged" "$(counted plain events minute_judged "$events")"
 
-printf '%-34s %12s %12s %12s %12s\n' "" "event instr" "event ns" "close instr" "close ns"
-row "Rust, plain" "$plain/minute"
-one=("${last[@]}")
-row "Rust, state by value and judged" "$plain/minute_judged"
-two=("${last[@]}")
-row "proved" "$PWD/target/bin/minute"
-proved=("${last[@]}")
-ratio "proved / plain" "${one[@]}"
-ratio "proved / by value and judged" "${two[@]}"
+printf '\n%-44s %12s %12s %8s\n' nanoseconds plain proved ratio
+time_row "event (minute)" events minute "$events"
+time_row "close, empty slots (minute)" closes minute $closes
+time_row "close, 704 filled slots, printed (replay)" printed replay $closes
 
-printf '\n%-34s %12s %12s %12s\n' "memory, kB" "no input" "events" "closes"
-memory "Rust, plain" "$plain/minute"
-memory "proved" "$PWD/target/bin/minute"
+printf '\n%-44s %12s %12s\n' kilobytes plain proved
+memory "no input (minute)" events.less minute
+memory "events (minute)" events.with minute
+memory "closes (minute)" filled.with minute
+
+printf '\nBudgets, instructions\n'
+budget "event" "${proved[events]}" 550
+budget "close, 704 filled slots" "${proved[filled]}" 52000
+budget "package, right sum, 1 a byte" "${proved[package]}" $bytes
+budget "package, wrong sum, 1 a byte" "${proved[wrong]}" $bytes
+budget "ask, 1 a byte" "${proved[ask]}" $bytes
+budget "load, y 0, 0.5 a byte" "${proved[load0]}" $(((bytes + 1) / 2))
+budget "load, y 1, 6 a word" "${proved[load1]}" $((6 * words))
+budget "load, y 2, 6 a word" "${proved[load2]}" $((6 * words))
+exit $failed
