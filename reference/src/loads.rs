@@ -17,8 +17,19 @@ pub const BITMAP_BYTES: usize = STAGING_BYTES.div_ceil(8);
 /// staged byte i last had a wrong sum.
 pub type Bitmap = [u8; BITMAP_BYTES];
 
-/// Sets the bits of these staged bytes, or clears them.
+/// Sets the bits of these staged bytes, or clears them: whole bytes at once, and those before and
+/// behind them one by one.
 fn put_bits(bitmap: &mut Bitmap, staged: Range<usize>, bad: bool) {
+    let (first, last) = (staged.start.div_ceil(8), staged.end / 8);
+    if first > last {
+        return put_each(bitmap, staged, bad);
+    }
+    put_each(bitmap, staged.start..8 * first, bad);
+    bitmap[first..last].fill(if bad { 255 } else { 0 });
+    put_each(bitmap, 8 * last..staged.end, bad);
+}
+
+fn put_each(bitmap: &mut Bitmap, staged: Range<usize>, bad: bool) {
     for i in staged {
         let bit = 1 << (i % 8);
         if bad {
@@ -33,14 +44,25 @@ pub fn is_bad(bitmap: &Bitmap, i: usize) -> bool {
     bitmap[i / 8] >> (i % 8) & 1 == 1
 }
 
-/// Whether a staged byte below the reach is bad. Bits from the reach on mean nothing.
+/// Whether a staged byte below the reach is bad. Bits from the reach on mean nothing. Whole bytes
+/// without an early exit, so that the compiler takes several at once.
 pub fn any_bad(bitmap: &Bitmap, reach: usize) -> bool {
-    (0..reach).any(|i| is_bad(bitmap, i))
+    let whole = reach / 8;
+    let bits = bitmap[..whole].iter().fold(0, |bits, byte| bits | byte);
+    bits != 0 || (8 * whole..reach).any(|i| is_bad(bitmap, i))
 }
 
 /// The sum of the staged bytes below the reach: less than 2^24, since 62,985 x 255 is.
 pub fn staged_sum(staging: &Staging, reach: usize) -> u32 {
-    staging[..reach].iter().map(|byte| *byte as u32).sum()
+    byte_sum(&staging[..reach])
+}
+
+/// Sums of 32 bytes: so many the compiler adds by sixteen at a time.
+fn byte_sum(bytes: &[u8]) -> u32 {
+    let sum = |bytes: &[u8]| bytes.iter().map(|byte| *byte as u32).sum::<u32>();
+    let parts = bytes.chunks_exact(32);
+    let rest = sum(parts.remainder());
+    parts.map(sum).sum::<u32>() + rest
 }
 
 /// The next address and the reach, the highest end since reset.
@@ -83,7 +105,7 @@ impl Addresses {
         self.next = end;
         self.reach = self.reach.max(end);
         let received = u16::from_be_bytes(*sum);
-        let computed = bytes.iter().fold(0u16, |sum, byte| sum.wrapping_add(*byte as u16));
+        let computed = byte_sum(bytes) as u16;
         put_bits(bitmap, address..end, received != computed);
         Ok(Placed { address, bytes: bytes.len(), received, computed })
     }
@@ -122,12 +144,35 @@ impl Load {
     /// Packs the staged bytes below the reach: zeros before the bytes of each word, and
     /// behind those of a short last one.
     pub fn run(&self, staged: &[u8], tables: &mut Tables) {
-        let words = tables[position(self.address)..].chunks_exact_mut(3);
-        for (bytes, word) in staged.chunks(self.bytes_a_word).zip(words) {
-            word.fill(0);
-            word[3 - self.bytes_a_word..][..bytes.len()].copy_from_slice(bytes);
+        let words = &mut tables[position(self.address)..];
+        match self.bytes_a_word {
+            1 => pack::<1>(staged, words),
+            2 => pack::<2>(staged, words),
+            _ => pack_threes(staged, words),
         }
     }
+}
+
+/// The whole words first: their width is known to the compiler.
+fn pack<const WIDTH: usize>(staged: &[u8], tables: &mut [u8]) {
+    let parts = staged.chunks_exact(WIDTH);
+    let rest = parts.remainder();
+    let (words, behind) = tables.split_at_mut(3 * (staged.len() / WIDTH));
+    let put = |word: &mut [u8], bytes: &[u8]| {
+        word.fill(0);
+        word[3 - WIDTH..][..bytes.len()].copy_from_slice(bytes);
+    };
+    words.chunks_exact_mut(3).zip(parts).for_each(|(word, bytes)| put(word, bytes));
+    if !rest.is_empty() {
+        put(&mut behind[..3], rest);
+    }
+}
+
+/// Three bytes a word lie as they are staged: one copy.
+fn pack_threes(staged: &[u8], tables: &mut [u8]) {
+    let (bytes, behind) = tables.split_at_mut(staged.len());
+    bytes.copy_from_slice(staged);
+    behind[..staged.len().next_multiple_of(3) - staged.len()].fill(0);
 }
 
 #[cfg(test)]
@@ -230,6 +275,26 @@ mod tests {
         assert_eq!(bitmap[..3], [0, 0b10, 0]);
         for (reach, bad) in [(0, false), (9, false), (10, true), (62_985, true)] {
             assert_eq!(any_bad(&bitmap, reach), bad, "{reach}");
+        }
+    }
+
+    #[test]
+    fn whole_bytes_of_bits_are_set_and_cleared_as_one_by_one() {
+        for (start, end) in (0..26).flat_map(|start| (start..26).map(move |end| (start, end))) {
+            for bad in [true, false] {
+                let (mut at_once, mut each) = ([0b1010_0110; BITMAP_BYTES], [0b1010_0110; BITMAP_BYTES]);
+                put_bits(&mut at_once, start..end, bad);
+                put_each(&mut each, start..end, bad);
+                assert_eq!(at_once[..5], each[..5], "{start} to {end}");
+            }
+        }
+    }
+
+    #[test]
+    fn the_sum_by_32_is_that_of_the_bytes() {
+        let bytes: [u8; 100] = std::array::from_fn(|i| (i * i % 251) as u8);
+        for n in 0..=100 {
+            assert_eq!(byte_sum(&bytes[..n]), bytes[..n].iter().map(|byte| *byte as u32).sum());
         }
     }
 

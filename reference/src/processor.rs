@@ -55,7 +55,7 @@ impl Closed {
 
 /// "at close, each slot zero or of box 6 to 116": the box is in bits 7 to 1.
 pub fn slot_within(slot: u32) -> bool {
-    slot == 0 || (6..=116).contains(&(slot >> 1 & 0x7F))
+    (slot == 0) | (6..=116).contains(&(slot >> 1 & 0x7F))
 }
 
 impl Processor {
@@ -228,7 +228,8 @@ impl Processor {
         ) else {
             return Closed::REFUSED;
         };
-        if !slots.iter().all(|slot| slot_within(*slot)) {
+        // Without an early exit the compiler judges several slots at once.
+        if !slots.iter().fold(true, |all, slot| all & slot_within(*slot)) {
             return Closed::REFUSED;
         }
         let closed = Closed {

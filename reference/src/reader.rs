@@ -85,11 +85,18 @@ fn rate(packet: &[u8]) -> Option<Body<'_>> {
 fn sample(packet: &[u8], application: u16) -> Option<Body<'_>> {
     let p = packet[269];
     let records = &packet[11..267];
-    let lawful = |record: &[u8]| record == [0; 4] || (6..=116).contains(&(record[3] >> 1));
-    let right = application == FIRST_SAMPLE + p as u16
-        && packet[270] == 0
-        && records.chunks_exact(4).all(lawful);
+    let right = application == FIRST_SAMPLE + p as u16 && packet[270] == 0 && records_lawful(records);
     right.then_some(Body::Sample { p, records })
+}
+
+/// Whether each record is empty or of box 6 to 116. The box is the upper part of its last byte: with
+/// that byte highest it is compared whole, and without an early exit several at once.
+fn records_lawful(records: &[u8]) -> bool {
+    let lawful = |record: &[u8]| {
+        let mirrored = u32::from_le_bytes(record.try_into().expect("four bytes"));
+        (mirrored == 0) | (6 << 25..117 << 25).contains(&mirrored)
+    };
+    records.chunks_exact(4).fold(true, |all, record| all & lawful(record))
 }
 
 fn beacon(packet: &[u8]) -> Option<Body<'_>> {

@@ -33,15 +33,36 @@ pub fn set_word(tables: &mut Tables, address: usize, value: u32) {
     tables[position(address)..][..3].copy_from_slice(&value.to_be_bytes()[1..]);
 }
 
-/// Sum of all words modulo 2^24 (rate packet, bytes 264-266). A word is the upper part of the four bytes from its first on;
-/// behind the last word there is no fourth byte.
+/// A row is sixteen words.
+const ROW_BYTES: usize = 48;
+/// So many bytes of a column have a sum of 16 bits.
+const ROWS: usize = 257;
+
+/// Sum of all words modulo 2^24 (rate packet, bytes 264-266).
 pub fn sum(tables: &Tables) -> u32 {
-    let four = |address| {
-        let i = position(address);
-        u32::from_be_bytes(tables[i..i + 4].try_into().expect("four bytes"))
-    };
-    let words = (FIRST_WORD..LAST_WORD).map(|address| four(address) >> 8);
-    words.fold(word(tables, LAST_WORD) as u32, u32::wrapping_add) & 0xFF_FFFF
+    tables.chunks(ROW_BYTES * ROWS).map(block_sum).fold(0, u32::wrapping_add) & 0xFF_FFFF
+}
+
+/// Bytes are added by the column, in 16 bits: eight additions at once. Less than a row may be left.
+fn block_sum(block: &[u8]) -> u32 {
+    let rows = block.chunks_exact(ROW_BYTES);
+    let left = rows.remainder().chunks_exact(3).map(|word| weighed([word[0], word[1], word[2]]));
+    let mut columns = [0u16; ROW_BYTES];
+    rows.for_each(|row| add_row(&mut columns, row.try_into().expect("a row")));
+    let words = columns.chunks_exact(3).map(|word| weighed([word[0], word[1], word[2]]));
+    words.chain(left).fold(0, u32::wrapping_add)
+}
+
+fn add_row(columns: &mut [u16; ROW_BYTES], row: &[u8; ROW_BYTES]) {
+    for (column, byte) in columns.iter_mut().zip(row) {
+        *column += *byte as u16;
+    }
+}
+
+/// The word of three bytes, or modulo 2^32 the sum of words of the sums of their bytes.
+fn weighed<Sum: Into<u32>>(bytes: [Sum; 3]) -> u32 {
+    let [high, middle, low] = bytes.map(Into::into);
+    (high << 16).wrapping_add(middle << 8).wrapping_add(low)
 }
 
 #[cfg(test)]
@@ -75,5 +96,12 @@ mod tests {
         // 20,995 words of 2^24 - 1 are -20,995 modulo 2^24.
         assert_eq!(sum(&[255; TABLE_BYTES]), (1 << 24) - 20_995);
         assert_eq!(sum(&[0; TABLE_BYTES]), 0);
+    }
+
+    #[test]
+    fn the_sum_is_that_of_the_words_one_by_one() {
+        let tables: Tables = std::array::from_fn(|i| (i * i % 253) as u8);
+        let words = (FIRST_WORD..=LAST_WORD).map(|address| word(&tables, address) as u32);
+        assert_eq!(sum(&tables), words.fold(0, u32::wrapping_add) % (1 << 24));
     }
 }
