@@ -19,11 +19,12 @@ ready() {
     done
 }
 
-# run INPUT COMMAND..: what it prints goes nowhere, but for what stands in the file `said`.
+# run INPUT COMMAND..: its output goes nowhere, its errors into the file `said`; `environment` holds what `env` sets.
+environment=()
 run() {
     local input=$1
     shift
-    (cd "$work" && exec env -i "$@" < "$input" > /dev/null 2> said)
+    (cd "$work" && exec env -i "${environment[@]}" "$@" < "$input" > /dev/null 2> said)
 }
 
 # instructions SIDE INPUT PROGRAM [WORD]: by callgrind
