@@ -5,9 +5,10 @@
 # Measures the program convert of FOLDER; without it it is proved and built. Needs Debian's packages valgrind and time.
 # Instructions: an archive of 100,000 packets, by the packet. Time: 37 such archives in a row, a gigabyte, the least of 15 runs.
 set -eu
+folder=${1:+$(realpath "$1")}
 cd "$(dirname "$0")/.."
 source bench/measure.sh
-ready "${1:-}" convert
+ready "$folder" convert
 packets=100000
 runs=15
 reference/target/release/streams --archive 1 $packets "$work"

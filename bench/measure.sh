@@ -19,6 +19,14 @@ ready() {
     done
 }
 
+# same_answers INPUT PROGRAM: both programs print the same of it, and no record is bad
+same_answers() {
+    local side
+    for side in plain proved; do (cd "$work" && "./$side/$2" < "$1" > "$side.out"); done
+    cmp "$work/plain.out" "$work/proved.out"
+    ! grep -q '^bad record' "$work/proved.out"
+}
+
 # run INPUT COMMAND..: its output goes nowhere, its errors into the file `said`; `environment` holds what `env` sets.
 environment=()
 run() {

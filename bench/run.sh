@@ -6,9 +6,10 @@
 # time. Each figure is the difference of two streams, with the work and without it (streams.py), by how often it is done; times
 # are the least of 25 runs.
 set -eu
+folder=${1:+$(realpath "$1")}
 cd "$(dirname "$0")/.."
 source bench/measure.sh
-ready "${1:-}" minute replay
+ready "$folder" minute replay
 cp reference/target/release/minute_judged "$work/plain"
 closes=2000
 repeats=20
@@ -26,6 +27,7 @@ stream events.with --million
 stream filled.with --full 500
 stream filled.less --unclosed 500
 python3 bench/streams.py "$work" $closes $repeats
+for input in "$work"/*.with "$work"/*.less; do same_answers "$input" replay; done
 events=$(($(stat -c %s "$work/events.with") / 8))
 
 # counted SIDE STREAM PROGRAM TIMES: instructions of the work, once
