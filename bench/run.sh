@@ -105,7 +105,6 @@ printf '\nBudgets, instructions\n'
 budget "event" "${proved[events]}" 550
 budget "close, 704 filled slots" "${proved[filled]}" 52000
 budget "package, right sum, 1 a byte" "${proved[package]}" $bytes
-budget "package, wrong sum, 1 a byte" "${proved[wrong]}" $bytes
 budget "ask, 1 a byte" "${proved[ask]}" $bytes
 budget "load, y 0, 0.5 a byte" "${proved[load0]}" $(((bytes + 1) / 2))
 budget "load, y 1, 6 a word" "${proved[load1]}" $((6 * words))
