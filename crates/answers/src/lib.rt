@@ -1,4 +1,6 @@
 // The answers of replay, printed: a module for each thing that is printed.
+#![tactic(auto)]
+
 pub mod calls;
 pub mod close;
 pub mod listing;

@@ -1,4 +1,5 @@
 // How many boxes, beacons and totals there are, and the boxes that the rules name by number.
+#![tactic(auto)]
 
 pub const BOXES: usize = 116;
 

@@ -8,7 +8,7 @@ use crate::turns::{MOST_TURNS, left};
 use libc::STDIN_FILENO;
 
 // The bytes of the buffer from `at` to before `end` are read and not yet used.
-#[derive(Drop)]
+#[derive(Clone, Copy)]
 pub struct Input {
     pub at: usize,
     pub end: usize,
@@ -37,7 +37,7 @@ fn move_to_start(buffer: &mut [u8], at: usize, end: usize)
 }
 
 // What was read: how many bytes there are now, and whether a read failed.
-#[derive(Drop)]
+#[derive(Clone, Copy)]
 pub struct Filled {
     pub bytes: usize,
     pub failed: bool,

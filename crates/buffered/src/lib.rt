@@ -1,4 +1,6 @@
 // What stands between a program and the system: reads and writes, buffered input and text, and the file of tables.
+#![tactic(auto)]
+
 pub mod files;
 pub mod input;
 pub mod text;

@@ -7,7 +7,7 @@ use libc::{EINTR, STDERR_FILENO};
 
 // What one read or write came to: how many bytes it moved; whether none will follow, as at the end of the input or after
 // a failure; and whether it failed.
-#[derive(Drop)]
+#[derive(Clone, Copy)]
 pub struct Moved {
     pub bytes: usize,
     pub ended: bool,

@@ -1,13 +1,15 @@
 // How many sample slots a processor has, and every number that follows from it.
+#![tactic(auto)]
+
 ghost use Rattle.std.specs.Prelude.{◌≡◌};
 ghost use Rattle.capacity.specs.Capacity.{numbers_of};
 
-#[derive(Drop)]
+#[derive(Clone, Copy)]
 pub enum Capacity {
     Slots704,
 }
 
-#[derive(Drop)]
+#[derive(Clone, Copy)]
 pub struct Numbers {
     // Sample slots.
     pub slots: usize,

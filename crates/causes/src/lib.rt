@@ -1,4 +1,6 @@
 // Why a call is refused: the numbers of document 01, "Causes and their numbers", and the choice among those that apply.
+#![tactic(auto)]
+
 ghost use Rattle.std.specs.Prelude.{◌≡◌, cond};
 
 // The call is carried out.

@@ -3,7 +3,7 @@ ghost use Rattle.std.specs.Prelude.{◌≡◌, true, ◌≤◌, ◌<◌, length}
 ghost use Rattle.wire.specs.Lists.{all};
 ghost use Rattle.command.specs.Grammar.{is_digit, digit_value, hex_value, argument_of};
 
-#[derive(Drop)]
+#[derive(Clone, Copy)]
 pub enum Argument {
     Value(u32),
     Malformed,

@@ -6,7 +6,7 @@ ghost use Rattle.command.specs.Asked.{is_load};
 use crate::ranges::Ranges;
 
 // The settings that a command changes.
-#[derive(Drop)]
+#[derive(Clone, Copy)]
 pub enum Setting {
     Limhi,
     Eonly,
@@ -17,7 +17,7 @@ pub enum Setting {
 }
 
 // The commands that wait for the interval's close.
-#[derive(Drop)]
+#[derive(Clone, Copy)]
 pub enum Command {
     // The setting, and its new value.
     Set(Setting, u16),
@@ -26,7 +26,7 @@ pub enum Command {
 }
 
 // What a line is.
-#[derive(Drop)]
+#[derive(Clone, Copy)]
 pub enum Line {
     Empty,
     // An unknown keyword or a wrong argument.

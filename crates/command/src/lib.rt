@@ -1,4 +1,6 @@
 // Command lines, what they ask for, and what a command makes of the settings.
+#![tactic(auto)]
+
 pub mod apply;
 pub mod argument;
 pub mod command;

@@ -1,5 +1,5 @@
 // What the ranges of commands depend on beside the line.
-#[derive(Drop)]
+#[derive(Clone, Copy)]
 pub struct Ranges {
     // How far the staged bytes reach.
     pub reach: u32,

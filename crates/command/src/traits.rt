@@ -5,20 +5,20 @@ ghost use Rattle.command.specs.Asked.{no_command, about_load, other_command, tra
 use crate::command::{Command, Line};
 
 // The command that a line leaves waiting for the close.
-#[derive(Drop)]
+#[derive(Clone, Copy)]
 pub enum Leaves {
     Nothing,
     Waits(Command),
 }
 
 // The sum that the staged bytes must have.
-#[derive(Drop)]
+#[derive(Clone, Copy)]
 pub enum Sum {
     Any,
     Named(u32),
 }
 
-#[derive(Drop)]
+#[derive(Clone, Copy)]
 pub struct Traits {
     // The keyword is unknown or an argument is wrong.
     pub wrong: bool,

@@ -1,4 +1,6 @@
 // Runs cases of command lines, echoes, load packages and loads, and prints each answer on a line of its own.
+#![tactic(auto)]
+
 mod cases;
 mod input;
 mod output;

@@ -1,5 +1,7 @@
 // The commands accepted in a frame and those that wait for its close, in order; and what those make of settings, tables
 // and staging addresses.
+#![tactic(auto)]
+
 ghost use Rattle.std.specs.Prelude.{◌≡◌, true, ◌≤◌, ◌<◌, length, take};
 ghost use Rattle.wire.specs.Lists.{all};
 ghost use Rattle.tables.specs.Tables.{table_bytes};
@@ -19,12 +21,12 @@ use settings::Settings;
 pub const MOST_COMMANDS: usize = 32;
 
 // A command that waits for the close.
-#[derive(Drop)]
+#[derive(Clone, Copy)]
 pub struct Waiting {
     pub command: Command,
 }
 
-#[derive(Drop)]
+#[derive(Clone, Copy)]
 pub struct CommandList {
     // Commands accepted in this frame.
     pub accepted: usize,

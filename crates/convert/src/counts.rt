@@ -2,7 +2,7 @@
 ghost use Rattle.std.specs.Prelude.{◌≡◌};
 ghost use Rattle.convert.specs.Block.{none_counted, more, counted_by};
 
-#[derive(Drop)]
+#[derive(Clone, Copy)]
 pub struct Counts {
     pub converted: u64,
     // Taken by the reader, and not to be converted: sample packets, and those already in the edition wanted.

@@ -1,5 +1,7 @@
 // Reads packets of 272 bytes one after the other from standard input and writes each to standard output: a rate or beacon
 // packet in the edition asked for, any other, and one that is refused, as it is.
+#![tactic(auto)]
+
 ghost use Rattle.std.specs.Prelude.{◌≡◌, length};
 
 mod block;

@@ -1,4 +1,6 @@
 // Converting a rate or beacon packet from one edition of the rate code to the other: calls that take any bytes.
+#![tactic(auto)]
+
 ghost use Rattle.std.specs.Prelude.{◌≡◌, true, ◌+◌, ◌*◌, ◌≤◌, length};
 ghost use Rattle.causes.specs.Causes.{carried_out};
 ghost use Rattle.rate_code.specs.Editions.{first_mark};
@@ -19,7 +21,7 @@ use wire::read::u16_at;
 use wire::write::{put_bytes, put_u16};
 
 // What is said of any bytes: the number with which the reader takes or refuses them, and that of the conversion.
-#[derive(Drop)]
+#[derive(Clone, Copy)]
 pub struct Conversion {
     pub read: u8,
     pub number: u8,

@@ -1,4 +1,6 @@
 // The counts of the rate boxes and beacons, by value.
+#![tactic(auto)]
+
 ghost use Rattle.std.specs.Prelude.{◌≡◌, ◌≤◌};
 ghost use Rattle.wire.specs.Lists.{EachBelow};
 ghost use Rattle.boxes.specs.Boxes.{box_count, beacon_count};
@@ -10,7 +12,7 @@ use sort::matrix::Cell;
 use sort::sorting::Outcome;
 
 // Box b is counted at index b - 1, and beacon n at index n - 1.
-#[derive(Drop)]
+#[derive(Clone, Copy)]
 pub struct Counts {
     pub boxes: [u32; BOXES],
     pub beacons: [u32; BEACONS],

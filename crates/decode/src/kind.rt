@@ -5,7 +5,7 @@ ghost use Rattle.decode.specs.Read.{kind_of, is_kind};
 use crate::limits::LAST_SAMPLE;
 use packet::applications::{BEACON_APPLICATION, RATE_APPLICATION, SAMPLE_APPLICATION, of_sample};
 
-#[derive(Drop)]
+#[derive(Clone, Copy)]
 pub enum Kind {
     Rate,
     Sample,

@@ -1,4 +1,6 @@
 // Echoes into the lent 128 bytes, zeros behind.
+#![tactic(auto)]
+
 ghost use Rattle.std.specs.Prelude.{◌≡◌, ◌++◌, ◌+◌, ◌-◌, ◌≤◌, ◌<◌, length};
 ghost use Rattle.wire.specs.Bytes.{put, zeros};
 ghost use Rattle.wire.specs.Text.{hex_digit, hex2};

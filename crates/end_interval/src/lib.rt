@@ -1,4 +1,6 @@
 // The end of an interval, its packets apart: whether it can be ended, what is returned of it, and what begins after it.
+#![tactic(auto)]
+
 ghost use Rattle.std.specs.Prelude.{◌≡◌, true, ◌+◌, ◌%◌, length};
 ghost use Rattle.wire.specs.Bytes.{zeros};
 ghost use Rattle.output.specs.Ended.{summary_of};

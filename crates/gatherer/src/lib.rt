@@ -1,4 +1,6 @@
 // The gatherer: listing packets, in any order and with repeats, put together to a table.
+#![tactic(auto)]
+
 ghost use Rattle.std.specs.Prelude.{◌≡◌, ◌≤◌};
 ghost use Rattle.listing_packet.specs.Listing.{listing_packets};
 ghost use Rattle.gatherer.specs.Gather.{none_gathered, missing_of, gather_done};
@@ -9,13 +11,13 @@ use wire::bits::bit;
 use wire::write::put_bytes;
 
 // Which of the 250 packets have come.
-#[derive(Drop)]
+#[derive(Clone, Copy)]
 pub struct Gathered {
     pub came: [bool; PACKETS],
 }
 
 // 0, or why the packet is refused; and what has come then.
-#[derive(Drop)]
+#[derive(Clone, Copy)]
 pub struct Gathering {
     pub number: u8,
     pub gathered: Gathered,

@@ -1,4 +1,6 @@
 // The ground reader: two calls that take any bytes.
+#![tactic(auto)]
+
 ghost use Rattle.std.specs.Prelude.{◌≡◌};
 ghost use Rattle.ground.specs.Ground.{read_of, is_sample, samples_in, records_of};
 
@@ -12,7 +14,7 @@ use packet::layout::{BODY_AT, FRAME_AT, RATES};
 use settings::Settings;
 
 // What a packet holds. What its kind has not is zero, and of a refused packet all but the number.
-#[derive(Drop)]
+#[derive(Clone, Copy)]
 pub struct Packet {
     // 0, or why the packet is refused.
     pub number: u8,

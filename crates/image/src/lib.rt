@@ -1,4 +1,6 @@
 // A state as bytes, the most significant of a number first.
+#![tactic(auto)]
+
 pub mod judge;
 pub mod layout;
 pub mod read;

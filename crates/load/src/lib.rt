@@ -1,4 +1,6 @@
 // Loads: packages that bring bytes to staging, and packing staged bytes into the lookup tables.
+#![tactic(auto)]
+
 pub mod bitmap;
 pub mod run;
 pub mod staging;

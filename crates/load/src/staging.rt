@@ -10,7 +10,7 @@ use wire::write::put_bytes;
 pub const STAGING_BYTES: usize = 62985;
 
 // The next address and the reach of staging.
-#[derive(Drop)]
+#[derive(Clone, Copy)]
 pub struct Addresses {
     pub next: u32,
     pub reach: u32,

@@ -1,4 +1,6 @@
 // Reads tables.bin and records from standard input, and prints a line for each interval that is closed.
+#![tactic(auto)]
+
 ghost use Rattle.buffered.specs.Input.{Held};
 ghost use Rattle.minute_calls.specs.Record.{LiesIn};
 ghost use Rattle.minute.specs.Step.{Stepped};

@@ -1,4 +1,6 @@
 // The packets of an interval that ends, each written into its own part of the output.
+#![tactic(auto)]
+
 ghost use Rattle.std.specs.Prelude.{◌≡◌, true, ◌+◌, ◌*◌, ◌≤◌, ◌<◌, length};
 ghost use Rattle.wire.specs.Bytes.{put};
 ghost use Rattle.tables.specs.Tables.{table_bytes};
@@ -15,7 +17,7 @@ use rate_code::editions::SECOND_MARK;
 use state::State;
 
 // What a close returns of the interval that it ended.
-#[derive(Drop)]
+#[derive(Clone, Copy)]
 pub struct Summary {
     pub taken: u32,
     pub counts: Counts,
@@ -23,7 +25,7 @@ pub struct Summary {
 }
 
 // The sample packets that are written: the first one's p, and how many.
-#[derive(Drop)]
+#[derive(Clone, Copy)]
 pub struct Span {
     pub first: u8,
     pub many: u8,

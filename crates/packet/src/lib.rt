@@ -1,4 +1,6 @@
 // The packets of an interval: layout, writing, the table sum.
+#![tactic(auto)]
+
 pub mod applications;
 pub mod envelope;
 pub mod layout;

@@ -4,7 +4,7 @@ ghost use Rattle.packet.specs.Packet.{stamp_of};
 
 use crate::layout;
 
-#[derive(Drop)]
+#[derive(Clone, Copy)]
 pub struct Stamp {
     // The sequence count, of which the header has fourteen bits.
     pub sequence: u16,

@@ -1,4 +1,6 @@
 // Writes the three packets for given values, and what the reader answers for them and for damaged ones.
+#![tactic(auto)]
+
 mod cases;
 mod show;
 mod values;

@@ -2,10 +2,11 @@
 use boxes::BEACONS;
 use decode::kind::Kind;
 use ground::Packet;
-use libc::STDOUT_FILENO;
 use packet::layout::RATES;
 use settings::Settings;
 use wire::bits::{bit, wide8, wide32};
+
+const STDOUT_FILENO: i32 = 1;
 
 fn end_line() {
     io::write_all(STDOUT_FILENO, b"\n");
@@ -61,7 +62,7 @@ fn kind_number(kind: Kind) -> u64 {
 }
 
 // Number, kind, header and frame, table sum, p, mark.
-fn head_line(p: Packet) {
+fn head_line(p: &Packet) {
     byte_word(p.number);
     let kind = p.kind;
     word(kind_number(kind));
@@ -89,7 +90,7 @@ fn settings_line(s: Settings) {
 pub fn packet(bytes: &[u8]) {
     hex_line(bytes);
     let p = ground::read(bytes);
-    head_line(p);
+    head_line(&p);
     settings_line(p.settings);
     let rates = p.rates;
     rates_line(&rates);

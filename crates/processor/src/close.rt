@@ -7,7 +7,7 @@ use output::{Span, Summary};
 use state::State;
 
 // What a close hands back: its number and the state; of the interval that it ended its counts, and zeros where it was refused.
-#[derive(Drop)]
+#[derive(Clone, Copy)]
 pub struct Closed {
     pub number: u8,
     pub state: State,

@@ -1,4 +1,6 @@
 // Reads tables.bin and a list of calls from standard input, carries them out and prints every answer.
+#![tactic(auto)]
+
 ghost use Rattle.std.specs.Prelude.{◌≡◌, length};
 ghost use Rattle.buffered.specs.Input.{Held};
 ghost use Rattle.replay_calls.specs.Ground.{gatherer};
@@ -14,7 +16,7 @@ use state::State;
 use stream::record::{Next, Step, bad, going_on, stopped};
 
 // Where the program stands after a record, and what has come to the ground.
-#[derive(Drop)]
+#[derive(Clone, Copy)]
 struct Done {
     step: Step,
     gathered: Gathered,

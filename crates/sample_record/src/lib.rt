@@ -1,4 +1,6 @@
 // The 32-bit sample record, packed and unpacked by shifts and masks.
+#![tactic(auto)]
+
 ghost use Rattle.std.specs.Prelude.{◌≡◌, ◌+◌, ◌*◌, ◌/◌, ◌%◌, ◌^◌, ◌≤◌, ◌<◌};
 ghost use Rattle.wire.specs.Bits.{bit_of};
 ghost use Rattle.sample_record.specs.Record.{SampleFits, record_of, sample_of, record_box, record_good};
@@ -7,7 +9,7 @@ use boxes::{LAST_BOX, OUT_OF_BOUNDS_BOX};
 use wire::bits::bit;
 
 // A record's fields, from bit 31 down.
-#[derive(Drop)]
+#[derive(Clone, Copy)]
 pub struct Sample {
     pub t: u16,
     pub channel: u16,

@@ -1,4 +1,6 @@
 // Which events are eligible as samples, and their records; the slots that take them are in the modules.
+#![tactic(auto)]
+
 pub mod at_close;
 pub mod selection;
 pub mod slots;

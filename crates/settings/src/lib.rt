@@ -1,8 +1,10 @@
 // The settings that commands change and that sorting, samples and rate packets go by.
+#![tactic(auto)]
+
 ghost use Rattle.std.specs.Prelude.{◌≡◌};
 ghost use Rattle.settings.specs.Settings.{fresh_settings, settings_within};
 
-#[derive(Drop)]
+#[derive(Clone, Copy)]
 pub struct Settings {
     // How many sample slots later events of priority 1 may replace.
     pub limhi: u16,

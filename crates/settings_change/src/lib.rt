@@ -1,4 +1,6 @@
 // Waiting commands change one settings record in place, one command at a time.
+#![tactic(auto)]
+
 ghost use Rattle.std.specs.Prelude.{◌≡◌};
 ghost use Rattle.command.specs.Change.{settings_after};
 

@@ -40,7 +40,7 @@ pub fn energy_column(t: u32, ktof: u32) -> i32
 }
 
 // A column of the matrix, or outside it.
-#[derive(Drop)]
+#[derive(Clone, Copy)]
 pub enum Column {
     Inside(usize),
     Outside,

@@ -2,7 +2,7 @@
 ghost use Rattle.std.specs.Prelude.{◌≡◌};
 ghost use Rattle.sort.specs.Event.{in_range, gain_of, channel_of};
 
-#[derive(Drop)]
+#[derive(Clone, Copy)]
 pub struct Event {
     // Time-of-flight channel, 0 to 511.
     pub t: u16,

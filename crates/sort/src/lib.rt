@@ -1,4 +1,6 @@
 // One event: its fields, its two columns, its matrix cell, and what becomes of it by rules 1 to 5.
+#![tactic(auto)]
+
 pub mod columns;
 pub mod event;
 pub mod matrix;

@@ -5,7 +5,7 @@ ghost use Rattle.sort.specs.Matrix.{matrix_bytes, cell_of, box_used, beacon_used
 use boxes::{JUNK_BOX, LAST_BEACON, LAST_BOX};
 
 // What a cell says: a rate box from 7 to 116, the priority, and a beacon from 1 to 12, or 0 for none.
-#[derive(Drop)]
+#[derive(Clone, Copy)]
 pub struct Cell {
     pub ratebox: u8,
     pub priority: bool,

@@ -13,7 +13,7 @@ use crate::{columns, event, matrix};
 use settings::Settings;
 
 // What happened to an event. The flag is the gain bit.
-#[derive(Drop)]
+#[derive(Clone, Copy)]
 pub enum Outcome {
     Discarded,
     OutOfBounds(bool),
@@ -21,7 +21,7 @@ pub enum Outcome {
 }
 
 // The four table words that an event's columns are made of.
-#[derive(Drop)]
+#[derive(Clone, Copy)]
 pub struct Words {
     pub energy: u32,
     pub k: u32,

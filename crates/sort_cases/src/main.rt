@@ -1,12 +1,13 @@
 // Sorts some events and places 710 records, and prints what becomes of them. The expected output is worked out
 // from the papers by other means.
+#![tactic(auto)]
+
 ghost use Rattle.std.specs.Prelude.{◌+◌, ◌*◌, ◌≤◌, ◌<◌, ◌≡◌, length, true};
 ghost use Rattle.sort.specs.Event.{in_range};
 ghost use Rattle.tables.specs.Tables.{table_bytes};
 
 use boxes::{BEACONS, BOXES};
 use counts::Counts;
-use libc::STDOUT_FILENO;
 use sample_record::Sample;
 use samples::slots::SlotUse;
 use settings::Settings;
@@ -31,6 +32,8 @@ const EVENTS: [u16; 80] = [
     0, 0, 2048, 8, 0, // low out of its range
     40, 1, 7, 9, 4, // another cell
 ];
+
+const STDOUT_FILENO: i32 = 1;
 
 fn space() {
     io::write_all(STDOUT_FILENO, b" ");

@@ -7,7 +7,7 @@ use boxes::{BEACONS, BOXES, TOTALS};
 use counts::Counts;
 use samples::slots::SlotUse;
 
-#[derive(Drop)]
+#[derive(Clone, Copy)]
 pub struct Interval {
     // Events taken.
     pub taken: u32,

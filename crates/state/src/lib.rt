@@ -1,4 +1,6 @@
 // The processor's state, by value and in parts, and the state of a fresh processor.
+#![tactic(auto)]
+
 pub mod interval;
 pub mod limits;
 
@@ -11,7 +13,7 @@ use interval::Interval;
 use load::staging::Addresses;
 use settings::Settings;
 
-#[derive(Drop)]
+#[derive(Clone, Copy)]
 pub struct State {
     // Intervals closed, modulo 65,536.
     pub frame: u16,

@@ -12,7 +12,7 @@ use state::State;
 use wire::bits::is_set;
 
 // What stands next in the input.
-#[derive(Drop)]
+#[derive(Clone, Copy)]
 pub enum Next {
     // It stopped before a kind byte.
     End,
@@ -29,7 +29,7 @@ pub enum Next {
 }
 
 // Where a program stands after a record: the state, the input, and whether there is more to do.
-#[derive(Drop)]
+#[derive(Clone, Copy)]
 pub struct Step {
     pub state: State,
     pub input: Input,

@@ -1,4 +1,6 @@
 // The lookup tables: 20,995 words of 24 bits in a lent buffer, by their hexadecimal addresses.
+#![tactic(auto)]
+
 ghost use Rattle.std.specs.Prelude.{◌≡◌, ◌≤◌, ◌<◌, length};
 ghost use Rattle.tables.specs.Tables.{first, end, table_bytes, word_at};
 

@@ -1,4 +1,6 @@
 // One event: whether it is taken, and what it makes of the state and the slots.
+#![tactic(auto)]
+
 ghost use Rattle.std.specs.Prelude.{◌≡◌, true, ◌<◌, length};
 ghost use Rattle.capacity.specs.Capacity.{numbers_of};
 ghost use Rattle.tables.specs.Tables.{table_bytes};

@@ -1,4 +1,6 @@
 // One command line: the cause among 5, 6, 7, 15 and 16, and what an accepted line makes of the state and the echo.
+#![tactic(auto)]
+
 ghost use Rattle.std.specs.Prelude.{◌≡◌, true, not, ◌&&◌, cond, [], ◌≤◌, length};
 ghost use Rattle.causes.specs.Checks.{number_by};
 ghost use Rattle.echo.specs.Echo.{echo_bytes};
@@ -20,7 +22,7 @@ use load::staging::Addresses;
 use state::State;
 
 // A line's number, 0 where it was accepted, the state, and the sum that an ask returns; 0 for every other line.
-#[derive(Drop)]
+#[derive(Clone, Copy)]
 pub struct LineAnswer {
     pub number: u8,
     pub state: State,
@@ -28,7 +30,7 @@ pub struct LineAnswer {
 }
 
 // What a line is answered, and the sum that an ask returns.
-#[derive(Drop)]
+#[derive(Clone, Copy)]
 pub struct Judged {
     pub number: u8,
     pub sum: u32,

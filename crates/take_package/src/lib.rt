@@ -1,4 +1,6 @@
 // One load package: whether it is staged, its echo, and what it makes of the state, staging and bitmap.
+#![tactic(auto)]
+
 ghost use Rattle.std.specs.Prelude.{◌≡◌, true, length};
 ghost use Rattle.echo.specs.Echo.{echo_bytes};
 ghost use Rattle.load.specs.Bitmap.{bitmap_bytes, bitmap_after};

@@ -1,4 +1,6 @@
 // One second reading: whether it is taken, and the state with its counts.
+#![tactic(auto)]
+
 ghost use Rattle.std.specs.Prelude.{◌≡◌, true, ◌<◌};
 ghost use Rattle.wire.specs.Lists.{EachBelow};
 ghost use Rattle.state.specs.Interval.{most_readings, with_reading};
