@@ -4,8 +4,7 @@ use mathlib.Core.Path.{◌≡◌, refl}
 use native.Mathlib.Omega.{arith}
 use Rattle.wire.proofs.BitLaws.{below_eight}
 use borrow.Author.Rules.{rules}
-use Rattle.wire.proofs.bits.bit_value.Statement.{statement}
-use Rattle.wire.proofs.bits.bit_value.Tie as tie
+use Rattle.wire.proofs.bits.bit_value.Goals as goal
 
 -- by the eight bits
 shifted : (k : ℕ) → k < 8 → (1 * 2 ^ k % 256 ≡ 2 ^ k) × (1 ≤ 1 * 2 ^ k % 256)
@@ -14,13 +13,5 @@ shifted =
     (refl, omega arith) (refl, omega arith) (refl, omega arith) (refl, omega arith)
     (refl, omega arith) (refl, omega arith) (refl, omega arith) (refl, omega arith)
 
-returns : tie.Need-returns
+pub returns : goal.returns
 returns c = shifted c.args.k c.requires
-
-pub bit-value-spec : {M : Type 1} → statement M
-bit-value-spec =
-    tie.close
-    (tie.spec
-    (λ c. search rules)
-    (λ c. search rules)
-    returns)

@@ -5,12 +5,10 @@ use native.Mathlib.Omega.{arith}
 use lib.ListN.{drop}
 use Rattle.wire.specs.Bytes.{total}
 use borrow.Author.Rules.{rules}
-use Rattle.wire.proofs.read.sum_32.Statement.{statement}
-use Rattle.wire.proofs.read.sum_32.Tie as tie
+use Rattle.wire.proofs.read.sum_32.Goals as goal
 
-returns : tie.Need-returns
-returns c =
-    let a = c.before.before.before.before.before.args in
+pub returns : goal.returns
+returns c = let a = c.args in
     let same : (i j : ℕ) → i ≡ j → total (drop i a.part.now) ≡ total (drop j a.part.now) =
     λ i j e. ap (λ (k : ℕ). total (drop k a.part.now)) e in (
       omega (
@@ -21,19 +19,3 @@ returns c =
       ),
       omega arith,
     )
-
-pub sum-32-spec : {M : Type 1} → statement M
-sum-32-spec =
-    tie.close
-    (tie.spec
-    (λ c κs. search rules)
-    (λ c. search rules)
-    (λ c κs. search rules)
-    (λ c. search rules)
-    (λ c. search rules)
-    (λ c κs. search rules)
-    (λ c. search rules)
-    (λ c. search rules)
-    (λ c κs. search rules)
-    (λ c. search rules)
-    returns)

@@ -3,11 +3,7 @@ use borrow.Author.Rules.{rules}
 use native.Mathlib.Omega.{arith}
 use Rattle.wire.specs.Bytes.{one}
 use Rattle.wire.proofs.Bytes.{put_sets}
-use Rattle.wire.proofs.write.put_u8.Statement.{statement}
-use Rattle.wire.proofs.write.put_u8.Tie as tie
+use Rattle.wire.proofs.write.put_u8.Goals as goal
 
-returns : tie.Need-returns
+pub returns : goal.returns
 returns c = put_sets (one c.args.v) c.args.part.now c.args.at (omega arith)
-
-pub put-u8-spec : {M : Type 1} → statement M
-put-u8-spec = tie.close (tie.spec (λ c. search rules) (λ c. search rules) returns)
