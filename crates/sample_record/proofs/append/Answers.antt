@@ -4,13 +4,8 @@ use mathlib.Core.Path.{ap, ◌∙◌}
 use native.Mathlib.Nat.{mod-eq_of_lt}
 use lib.Bits.{bit_or, or_shifted}
 use borrow.Author.Rules.{rules}
-use Rattle.sample_record.proofs.append.Statement.{statement}
-use Rattle.sample_record.proofs.append.Tie as tie
+use Rattle.sample_record.proofs.append.Goals as goal
 
-returns : tie.Need-returns
-returns c =
-    let a = c.args in
+pub returns : goal.returns
+returns c = let a = c.args in
     ap (λ (n : ℕ). bit_or n a.field) (mod-eq_of_lt c.requires.1) ∙ or_shifted a.x a.bits a.field c.requires.2
-
-pub append-spec : {M : Type 1} → statement M
-append-spec = tie.close (tie.spec (λ c. search rules) returns)

@@ -1,0 +1,18 @@
+-- `finish` writes the ending, and zeros behind it to the end of the buffer.
+use Prim.Native.Nat.{ℕ, ◌+◌, ◌-◌}
+use mathlib.Core.Path.{◌≡◌, refl, ap, ◌∙◌}
+use mathlib.Core.List.{◌++◌}
+use native.Mathlib.Omega.{arith}
+use Rattle.wire.specs.Bytes.{put, zeros}
+use Rattle.wire.proofs.Bytes.{then}
+use Rattle.echo.specs.Echo.{ending}
+use borrow.Author.Rules.{rules}
+use Rattle.echo.proofs.finish.Goals as goal
+
+pub returns : goal.returns
+returns c = let c2 = c in
+    let c1 = c2 in
+    let a = c1.args in
+    let k : 128 - (a.at + 7) ≡ 121 - a.at = omega arith in
+    then a.echo.now a.at ending _ _ c1.put_bytes.ensures c2.put_zeros.ensures refl (omega arith)
+    ∙ ap (λ (n : ℕ). put a.echo.now a.at (ending ++ zeros n)) k

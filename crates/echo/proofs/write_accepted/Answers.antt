@@ -1,0 +1,30 @@
+-- `write_accepted` writes frame, sequence number, line and ending, which together are the accepted echo.
+use Prim.Native.Nat.{ℕ, ◌+◌, ◌%◌}
+use mathlib.Core.Path.{refl}
+use mathlib.Core.List.{List, ◌++◌}
+use native.Mathlib.Omega.{arith}
+use lib.ListN.{length, length-append}
+use Rattle.wire.proofs.Bytes.{then}
+use Rattle.wire.specs.Text.{text, hex2}
+use Rattle.echo.specs.Echo.{accepted_echo}
+use Rattle.echo.proofs.EchoLaws.{echo_ends}
+use borrow.Author.Rules.{rules}
+use Rattle.echo.proofs.write_accepted.Goals as goal
+
+pub returns : goal.returns
+unfolding accepted_echo
+returns c = let c5 = c in
+    let c4 = c5 in
+    let c3 = c4 in
+    let c2 = c3 in
+    let c1 = c2 in
+    let s = c1 in
+    let xs = s.args.echo.now in
+    let line = s.args.line.now in
+    let front : List ℕ = hex2 (s.args.frame % 256) ++ hex2 s.args.sequence ++ text " " in
+    echo_ends xs (front ++ line) (5 + length line) s.requires.0 (length-append front line) (omega arith)
+    (then xs 0 front line 5
+    (then xs 0 _ _ 4 (then xs 0 _ _ 2 c1.put_hex2.ensures c2.put_hex2-2.ensures refl (omega arith))
+    c3.put_u8.ensures refl (omega arith))
+    c4.put_bytes.ensures refl (omega arith))
+    c5.finish.ensures
