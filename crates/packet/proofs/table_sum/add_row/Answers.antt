@@ -1,0 +1,35 @@
+-- `add_row` has added, after j turns, the first j bytes of the row, and left the other columns as they were.
+use borrow.Author.Rules.{rules}
+use Prim.Native.Nat.{ℕ, ◌≤◌, ◌-◌, ◌+◌}
+use mathlib.Core.Path.{◌≡◌, refl, ◌∙◌}
+use native.Mathlib.Omega.{arith}
+use lib.ListN.{length, get_or, take, length-set}
+use lib.Seq.{get_or-set_other}
+use Rattle.wire.specs.Pieces.{table}
+use Rattle.wire.proofs.Pieces.{table_none, table_turn, table_end}
+use Rattle.packet.specs.TableSum.{added_row}
+use Rattle.packet.proofs.table_sum.add_row.Goals as goal
+
+pub loop-j-init : goal.loop-j-init
+loop-j-init c = (omega arith, c.requires.0, table_none _, λ k h. refl)
+
+pub overflow_add-columns : goal.overflow_add-columns
+overflow_add-columns c = let l = c in
+    let j = l.loop-j.j in
+    omega (arith, c.wide.ensures, l.loop-j.invariant.3 j (omega arith), l.requires.1 j)
+
+pub loop-j-preserved : goal.loop-j-preserved
+loop-j-preserved c = let l = c in
+    let j = l.loop-j.j in
+    let v = l.loop-j.invariant in (
+      omega arith,
+      simp length-set v.1,
+      table_turn _ l.loop-j.columns j (omega arith) v.2 (omega (arith, c.wide.ensures, v.3 j (omega arith))),
+      λ k h. get_or-set_other l.loop-j.columns j k _ 0 (λ e. omega arith) ∙ v.3 k (omega arith),
+    )
+
+pub returns : goal.returns
+unfolding added_row
+returns c = let l = c in
+    let v = l.loop-j.invariant in
+    table_end _ l.loop-j.columns l.loop-j.j 48 (omega arith) (omega arith) v.1 v.2

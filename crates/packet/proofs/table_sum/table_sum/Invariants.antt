@@ -1,0 +1,16 @@
+-- `table_sum` has added, after k turns, the words of the first k blocks; the last three words are added behind the loop.
+use borrow.Author.Rules.{rules}
+use Prim.Native.Nat.{ℕ, ◌≤◌, ◌-◌, ◌+◌, ◌*◌, ◌%◌}
+use mathlib.Core.List.{List}
+use mathlib.Core.Path.{◌≡◌, sym, ap, ◌∙◌}
+use native.Mathlib.Omega.{arith}
+use Rattle.tables.specs.Tables.{first, table_words, word_at}
+use Rattle.packet.specs.TableSum.{word_sum, table_sum}
+use Rattle.packet.proofs.WordSums.{no_words, first_more, words_split, words_by_address}
+use Rattle.packet.proofs.table_sum.table_sum.Given as goal
+
+abbrev pub invariant-loop-k : goal.invariant-loop-k
+invariant-loop-k l = (l.k ≤ 8) × (l.sum ≤ 1099511627776 * l.k) × (l.sum ≡ word_sum l.tables 0 (2624 * l.k))
+
+abbrev pub decreases-loop-k : goal.decreases-loop-k
+decreases-loop-k l = 8 - l.k

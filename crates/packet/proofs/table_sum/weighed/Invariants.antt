@@ -1,0 +1,15 @@
+-- `weighed` has added, after k turns, the first k words of the columns.
+use borrow.Author.Rules.{rules}
+use Prim.Native.Nat.{◌≤◌, ◌-◌, ◌+◌, ◌*◌}
+use mathlib.Core.Path.{◌≡◌, ap, sym, ◌∙◌}
+use native.Mathlib.Omega.{arith}
+use lib.ListN.{get_or}
+use Rattle.packet.specs.TableSum.{word_sum}
+use Rattle.packet.proofs.WordSums.{no_words, first_more}
+use Rattle.packet.proofs.table_sum.weighed.Given as goal
+
+abbrev pub invariant-loop-k : goal.invariant-loop-k
+invariant-loop-k l = (l.k ≤ 16) × (l.sum ≤ 4311810048 * l.k) × (l.sum ≡ word_sum l.columns 0 l.k)
+
+abbrev pub decreases-loop-k : goal.decreases-loop-k
+decreases-loop-k l = 16 - l.k

@@ -1,0 +1,34 @@
+-- `write_beacon` puts codes and then zeros from byte 11 to the frame: the body of the beacon packet.
+use borrow.Author.Rules.{rules}
+use Prim.Native.Nat.{ℕ, ◌*◌}
+use mathlib.Core.Path.{◌≡◌, sym, ap, ◌∙◌}
+use mathlib.Core.List.{List, ◌++◌}
+use native.Mathlib.Omega.{arith}
+use lib.ListN.{length}
+use Rattle.wire.specs.Bytes.{zeros}
+use Rattle.wire.proofs.Bytes.{then}
+use Rattle.boxes.specs.Boxes.{beacon_count}
+use Rattle.packet.specs.Layout.{body_at, code_bytes, beacon_end, beacon_unused}
+use Rattle.rate_code.specs.Editions.{second_mark}
+use Rattle.packet.specs.Packet.{beacon_application, packet_of, codes, beacon_body, beacon_packet}
+use Rattle.packet.proofs.Written.{length_codes, length_beacon_body, packet_written}
+use Rattle.packet.proofs.write.write_beacon.Goals as goal
+
+pub returns : goal.returns
+unfolding beacon_packet
+returns c = let c5 = c in
+    let c4 = c5 in
+    let c3 = c4 in
+    let c2 = c3 in
+    let c1 = c2 in
+    let s = c1 in
+    let x = c1.write_header.new.part in
+    let beacons = s.args.beacons.now in
+    let B : List ℕ = codes second_mark beacons in
+    let lb : length B ≡ code_bytes * beacon_count = omega (arith, length_codes second_mark beacons, s.requires.part_len.1) in
+    packet_written s.args.part.now _ s.args.stamp (B ++ zeros beacon_unused) s.requires.part_len.0
+    (length_beacon_body second_mark beacons s.requires.part_len.1)
+    c1.write_header.ensures
+    (then x body_at B (zeros beacon_unused) beacon_end c2.write_codes.ensures c3.put_zeros.ensures (omega arith) (omega arith))
+    c4.write_trailer.ensures c5.write_sum.ensures
+    ∙ ap (λ (m : ℕ). packet_of beacon_application s.args.stamp (beacon_body m beacons)) (sym s.requires.each_below.1)

@@ -1,0 +1,16 @@
+-- `write_trailer` puts the frame and two bytes in a row.
+use borrow.Author.Rules.{rules}
+use mathlib.Core.Path.{refl}
+use native.Mathlib.Omega.{arith}
+use Rattle.wire.proofs.Bytes.{then}
+use Rattle.packet.specs.Packet.{trailer}
+use Rattle.packet.proofs.write.write_trailer.Goals as goal
+
+pub returns : goal.returns
+unfolding trailer
+returns c = let c3 = c in
+    let c2 = c3 in
+    let c1 = c2 in
+    let h = c1.requires in
+    then _ _ _ _ _ (then _ _ _ _ _ c1.put_u16.ensures c2.put_u8.ensures refl (omega arith))
+    c3.put_u8-2.ensures refl (omega arith)
