@@ -8,35 +8,16 @@ use Rattle.wire.specs.Bytes.{put, zeros}
 use Rattle.wire.specs.Pieces.{padded}
 use Rattle.wire.proofs.Lists.{part_of_reach}
 use borrow.Author.Rules.{rules}
-use Rattle.load.proofs.run.load_word.Statement.{statement}
-use Rattle.load.proofs.run.load_word.Tie as tie
+use Rattle.load.proofs.run.load_word.Goals as goal
 
-returns : tie.Need-returns
-returns c =
-    let q = c.before.before in
-    let m = q.before.before.before in
-    let s = m.before.before.before.args in
+pub returns : goal.returns
+returns c = let q = c in
+    let m = q in
+    let s = m.args in
     let staged = s.staging.now in
     let w = s.width in
     let f : ℕ = w * s.k in
     let e : f + m.smaller.result - f ≡ min w (s.n - f) = omega (arith, m.smaller.ensures) in
-    q.put-packed.ensures
+    q.put_packed.ensures
     ∙ ap (λ (b : List ℕ). put s.tables.now (s.at + 3 * s.k) (zeros (3 - w) ++ padded w b))
     (ap (λ (n : ℕ). take n (drop f staged)) e ∙ sym (part_of_reach staged w f s.n (omega arith) (omega arith)))
-
-pub load-word-spec : {M : Type 1} → statement M
-load-word-spec =
-    tie.close
-    (tie.spec
-    (λ c. search rules)
-    (λ c. search rules)
-    (λ c κs. search rules)
-    (λ c. search rules)
-    (λ c. search rules)
-    (λ c. search rules)
-    (λ c. search rules)
-    (λ c. search rules)
-    (λ c. search rules)
-    (λ c κs. search rules)
-    (λ c. search rules)
-    returns)

@@ -8,16 +8,14 @@ use Rattle.wire.specs.Bytes.{put, zeros}
 use Rattle.wire.specs.Pieces.{padded}
 use Rattle.wire.proofs.Bytes.{then}
 use borrow.Author.Rules.{rules}
-use Rattle.load.proofs.run.put_packed.Statement.{statement}
-use Rattle.load.proofs.run.put_packed.Tie as tie
+use Rattle.load.proofs.run.put_packed.Goals as goal
 
-returns : tie.Need-returns
+pub returns : goal.returns
 unfolding padded
-returns c =
-    let c3 = c.before.before in
-    let c2 = c3.before.before.before.before in
-    let c1 = c2.before.before.before.before in
-    let s = c1.before.before.before.before.args in
+returns c = let c3 = c in
+    let c2 = c3 in
+    let c1 = c2 in
+    let s = c1.args in
     let xs = s.tables.now in
     let b = s.bytes.now in
     let from : ℕ = s.at + (3 - s.width) in
@@ -26,24 +24,10 @@ returns c =
     let front : List ℕ = zeros (3 - s.width) in
     let lf : length front ≡ 3 - s.width = length-replicate {A = ℕ} (3 - s.width) 0 in
     let lb : length (front ++ b) ≡ length front + length b = length-append front b in
-    let e = c1.put-zeros.ensures ∙ ap (λ (m : ℕ). put xs s.at (zeros m)) k in
+    let e = c1.put_zeros.ensures ∙ ap (λ (m : ℕ). put xs s.at (zeros m)) k in
     then xs s.at (front ++ b) (zeros (s.width - length b)) (from + length b)
-    (then xs s.at front b from e c2.put-bytes.ensures (omega arith) (omega arith))
-    (c3.put-zeros2.ensures ∙ ap (λ (m : ℕ). put c2.put-bytes.new.0 (from + length b) (zeros m)) n)
+    (then xs s.at front b from e c2.put_bytes.ensures (omega arith) (omega arith))
+    (c3.put_zeros-2.ensures ∙ ap (λ (m : ℕ). put c2.put_bytes.new.part (from + length b) (zeros m)) n)
     (omega arith)
     (omega arith)
     ∙ ap (put xs s.at) (append_assoc front b (zeros (s.width - length b)))
-
-pub put-packed-spec : {M : Type 1} → statement M
-put-packed-spec =
-    tie.close
-    (tie.spec
-    (λ c. search rules)
-    (λ c. search rules)
-    (λ c κs. search rules)
-    (λ c κs. search rules)
-    (λ c. search rules)
-    (λ c. search rules)
-    (λ c κs. search rules)
-    (λ c. search rules)
-    returns)

@@ -1,0 +1,20 @@
+-- `none_bad` has found, from the whole bytes on and then turn by turn, whether none of the first i staged bytes is bad.
+use borrow.Author.Rules.{rules}
+use Prim.Native.Nat.{◌≤◌, ◌-◌}
+use mathlib.Core.Path.{◌≡◌, ap}
+use mathlib.Core.Bool.{not}
+use native.Mathlib.Omega.{arith}
+use Rattle.wire.proofs.Pieces.{each_turn, each_end}
+use Rattle.load.specs.Bitmap.{none_bad}
+use Rattle.load.proofs.bitmap.none_bad.Goals as goal
+
+pub loop-i-init : goal.loop-i-init
+loop-i-init c = (omega arith, c.none_whole-good.ensures)
+
+pub loop-i-preserved : goal.loop-i-preserved
+loop-i-preserved c = let l = c in
+    (omega arith, each_turn _ l.loop-i.i l.loop-i.invariant.1 (ap not c.is_bad.ensures))
+
+pub returns : goal.returns
+returns c = let l = c in
+    each_end _ l.loop-i.i l.args.reach (omega arith) (omega arith) l.loop-i.invariant.1

@@ -1,0 +1,31 @@
+-- `put_each` has put, after i turns, the bits of the first i staged bytes.
+use borrow.Author.Rules.{rules}
+use Prim.Native.Nat.{ℕ, ◌≤◌, ◌-◌, ◌+◌, ◌/◌}
+use mathlib.Core.Path.{◌≡◌, refl, ap, ◌∙◌}
+use native.Mathlib.Omega.{arith}
+use native.Mathlib.Numerals.{add-one}
+use mathlib.Core.List.{List}
+use lib.ListN.{length, length-set}
+use Rattle.load.specs.Bitmap.{with_bad, bitmap_after}
+use Rattle.load.proofs.bitmap.put_each.Goals as goal
+
+pub loop-i-init : goal.loop-i-init
+unfolding bitmap_after
+loop-i-init c = (omega arith, refl, refl)
+
+pub loop-i-preserved : goal.loop-i-preserved
+unfolding bitmap_after
+loop-i-preserved c = let m = c in
+    let l = m in
+    let a = l.args in
+    let e = m.put_bit.ensures in (
+      omega arith,
+      rw add-one (e ∙ ap (λ (x : List ℕ). with_bad x (a.next + l.loop-i.i) a.bad) l.loop-i.invariant.1),
+      ap length e ∙ length-set l.loop-i.bitmap _ _ ∙ l.loop-i.invariant.2,
+    )
+
+pub returns : goal.returns
+returns c = let l = c in
+    let a = l.args in
+    let e : l.loop-i.i ≡ a.n = omega arith in
+    l.loop-i.invariant.1 ∙ ap (λ (k : ℕ). bitmap_after a.bitmap.now a.next k a.bad) e

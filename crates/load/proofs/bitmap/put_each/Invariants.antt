@@ -1,0 +1,16 @@
+-- `put_each` has put, after i turns, the bits of the first i staged bytes.
+use borrow.Author.Rules.{rules}
+use Prim.Native.Nat.{ℕ, ◌≤◌, ◌-◌, ◌+◌, ◌/◌}
+use mathlib.Core.Path.{◌≡◌, refl, ap, ◌∙◌}
+use native.Mathlib.Omega.{arith}
+use native.Mathlib.Numerals.{add-one}
+use mathlib.Core.List.{List}
+use lib.ListN.{length, length-set}
+use Rattle.load.specs.Bitmap.{with_bad, bitmap_after}
+use Rattle.load.proofs.bitmap.put_each.Given as goal
+
+abbrev pub invariant-loop-i : goal.invariant-loop-i
+invariant-loop-i l = (l.i ≤ l.n) × (l.bitmap ≡ bitmap_after l.initial.bitmap l.next l.i l.bad) × (length l.bitmap ≡ length l.initial.bitmap)
+
+abbrev pub decreases-loop-i : goal.decreases-loop-i
+decreases-loop-i l = l.n - l.i

@@ -1,0 +1,34 @@
+-- After k turns `load_ones` has put the first k words.
+use Prim.Native.Nat.{ℕ, ◌≤◌, ◌+◌, ◌-◌, ◌*◌}
+use mathlib.Core.Path.{◌≡◌, refl, ap, ◌∙◌}
+use native.Mathlib.Omega.{arith}
+use lib.ListN.{length}
+use Rattle.wire.specs.Bytes.{put, be24}
+use Rattle.wire.proofs.Bytes.{put_nil}
+use Rattle.load.specs.Load.{packed_words}
+use Rattle.load.proofs.LoadLaws.{word_more, packed_one_byte}
+use borrow.Author.Rules.{rules}
+use Rattle.load.proofs.run.load_ones.Goals as goal
+
+pub loop-k-init : goal.loop-k-init
+unfolding packed_words
+loop-k-init c = (omega arith, put_nil _ _, refl)
+
+pub loop-k-preserved : goal.loop-k-preserved
+loop-k-preserved c = let p = c in
+    let v = p in
+    let l = v in
+    let a = l.args in
+    let k = l.loop-k.k in
+    let e = packed_one_byte a.bytes.now k v.wide8.result (omega arith) v.wide8.ensures.0 (omega arith) in (
+      omega arith,
+      word_more a.tables.now a.at 1 a.bytes.now k (omega arith) l.loop-k.invariant.1
+          (p.put_u24.ensures ∙ ap (put l.loop-k.tables (a.at + 3 * k)) e) (omega arith),
+      omega arith,
+    )
+
+pub returns : goal.returns
+returns c = let l = c in
+    let a = l.args in
+    let e : l.loop-k.k ≡ a.n = omega arith in
+    l.loop-k.invariant.1 ∙ ap (λ (k : ℕ). put a.tables.now a.at (packed_words 1 a.bytes.now k)) e
