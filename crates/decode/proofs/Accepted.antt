@@ -73,14 +73,14 @@ module _ (a : ℕ) (st : Stamp) (body : List ℕ) (lb : length body ≡ body_byt
   inner = length_inner st body lb
 
   pub application_back : application_of P ≡ a
-  application_back = back.application-back a _ _ _ inner ha
+  application_back = back.application_back a _ _ _ inner ha
 
   pub kind_back : (k : Kind) → kind_of a ≡ k → kind_of (application_of P) ≡ k
   kind_back k e = ap kind_of application_back ∙ e
 
   number_back : (k : Kind) → kind_of a ≡ k → is_kind k ≡ true → body_good k P ≡ true → read_number P ≡ 0
   number_back k e i g =
-      accepted_is P (back.header-back a _ _ _ inner ha (ap is_kind e ∙ i)) (back.sum_back a _ _ _ inner)
+      accepted_is P (back.header_back a _ _ _ inner ha (ap is_kind e ∙ i)) (back.sum_back a _ _ _ inner)
       (ap (λ (x : Kind). body_good x P) (kind_back k e) ∙ g)
 
   -- codes that counts have are without fault, and give the counts' least counts
@@ -88,8 +88,8 @@ module _ (a : ℕ) (st : Stamp) (body : List ℕ) (lb : length body ≡ body_byt
       → (codes_good n P ≡ true) × (rates_of n P ≡ map (λ c. least_by st.mark (code_by st.mark c)) ns)
   unfolding codes_good rates_of
   codes_back ns rest e h n l =
-      let m = back.mark-back a st body lb in
-      let code = back.code-back a st body lb st.mark ns rest e in (
+      let m = back.mark_back a st body lb in
+      let code = back.code_back a st body lb st.mark ns rest e in (
         each_all _ n (λ i q. (λ k. valid_by (m k) (code i (omega arith) k)) ∙ by_valid st.mark _ (h i)),
         table_is _ n _ (length-map ns (λ c. least_by st.mark (code_by st.mark c)) ∙ l) (λ i q.
             let j : i < length ns = omega arith in
@@ -97,11 +97,11 @@ module _ (a : ℕ) (st : Stamp) (body : List ℕ) (lb : length body ≡ body_byt
       )
 
   last_zero : (marks : ℕ) → StampFits marks st → last_of P ≡ 0
-  last_zero marks h = back.last-back a st body lb ∙ h.last_is
+  last_zero marks h = back.last_back a st body lb ∙ h.last_is
 
   end_back : StampFits last_mark st → end_good P ≡ true
   end_back h =
-      both (le-leb (mark_of P) last_mark (omega (arith, back.mark-back a st body lb, h.mark_fits)))
+      both (le-leb (mark_of P) last_mark (omega (arith, back.mark_back a st body lb, h.mark_fits)))
       (eq-eqb _ _ (last_zero last_mark h))
 
 -- ---- a rate packet
@@ -133,7 +133,7 @@ module _ (st : Stamp) (fits : StampFits last_mark st) (totals boxes : List ℕ) 
 
   settings_at : (j : ℕ) → j < 8 → get_or rate_is (body_at + (code_bytes * rate_count + j)) 0 ≡ get_or (settings_bytes s sum) j 0
   settings_at j h =
-      back.body-at rate_application st rate_body_lem rate_length (code_bytes * rate_count + j) (omega arith)
+      back.body_at_lem rate_application st rate_body_lem rate_length (code_bytes * rate_count + j) (omega arith)
       ∙ ap (λ (b : List ℕ). get_or b (code_bytes * rate_count + j) 0) rate_split
       ∙ behind (codes st.mark (totals ++ boxes)) (settings_bytes s sum) (code_bytes * rate_count) j
       (length_codes st.mark (totals ++ boxes) ∙ omega (arith, length_counts))
@@ -207,14 +207,14 @@ module _ (st : Stamp) (fits : StampFits last_sample st) (records : List ℕ) (v 
   records_back =
       each_all _ record_count (λ i h.
       let k : i < length records = omega (arith, v.records_are) in
-      ap record_good (back.record-back number_is st (words records) sample_length records refl i k)
+      ap record_good (back.record_back number_is st (words records) sample_length records refl i k)
       ∙ all_get record_good records 0 i k v.records_good_lem)
 
   sample_good_back : sample_good samples_are ≡ true
   unfolding sample_good
   sample_good_back =
       let l = sample_length in
-      let m = back.mark-back number_is st (words records) l in
+      let m = back.mark_back number_is st (words records) l in
       both (both
       (eq-eqb _ _ (application_back number_is st (words records) l application_fits ∙ ap application_of_sample (sym m)))
       (eq-eqb _ _ (last_zero number_is st (words records) l application_fits last_sample fits)))
@@ -250,7 +250,7 @@ module _ (st : Stamp) (fits : StampFits last_mark st) (beacons : List ℕ) (v : 
       each_all _ beacon_unused (λ i h.
       let q : beacon_end + i ≡ body_at + (code_bytes * beacon_count + i) = omega arith in
       eq-eqb _ _ (ap (λ (n : ℕ). get_or beacon_is n 0) q
-      ∙ back.body-at beacon_application st beacon_body_lem beacon_length (code_bytes * beacon_count + i) (omega arith)
+      ∙ back.body_at_lem beacon_application st beacon_body_lem beacon_length (code_bytes * beacon_count + i) (omega arith)
       ∙ behind (codes st.mark beacons) (zeros beacon_unused) (code_bytes * beacon_count) i
       (length_codes st.mark beacons ∙ omega (arith, v.beacons_are))
       ∙ get_or-replicate beacon_unused i 0 0 h))
