@@ -1,0 +1,9 @@
+-- `applied` changes the setting that a command names, and a load changes none.
+use mathlib.Core.Path.{sym, ap, ◌∙◌}
+use Rattle.command.specs.Change.{settings_after}
+use borrow.Author.Rules.{rules}
+use Rattle.command.proofs.apply.applied.Goals as goal
+
+pub returns-in-Set : goal.returns-in-Set
+returns-in-Set c = let k = c in
+    c.changed.ensures ∙ sym (ap (settings_after k.args.s) k.in-Set.is)

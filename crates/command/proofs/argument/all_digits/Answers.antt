@@ -1,0 +1,25 @@
+-- `all_digits` stops at the first byte that is no digit.
+use Prim.Native.Nat.{◌≤◌, ◌-◌}
+use mathlib.Core.Path.{◌≡◌, sym, ◌∙◌}
+use native.Mathlib.Omega.{arith}
+use lib.ListN.{length, drop}
+use borrow.Author.Tests.{not-true, not-false}
+use Rattle.wire.specs.Lists.{all}
+use Rattle.wire.proofs.Lists.{all_stop, all_step, all_end}
+use Rattle.command.specs.Grammar.{is_digit}
+use borrow.Author.Rules.{rules}
+use Rattle.command.proofs.argument.all_digits.Goals as goal
+
+pub returns-then-not-is_digit : goal.returns-then-not-is_digit
+returns-then-not-is_digit c = let l = c in
+    let e = sym c.is_digit.ensures ∙ c.if-not-is_digit.true in
+    sym (all_stop is_digit l.args.w.now 0 l.loop-i.i (omega arith) e l.loop-i.invariant.1)
+
+pub loop-i-preserved : goal.loop-i-preserved
+loop-i-preserved c = let l = c in
+    let e = sym c.is_digit.ensures ∙ c.if-not-is_digit.false in
+    (omega arith, all_step is_digit l.args.w.now 0 l.loop-i.i (omega arith) e l.loop-i.invariant.1)
+
+pub returns : goal.returns
+returns c = let l = c in
+    sym (all_end is_digit l.args.w.now 0 l.loop-i.i (omega arith) l.loop-i.invariant.1)

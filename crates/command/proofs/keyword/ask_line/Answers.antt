@@ -1,0 +1,17 @@
+-- `ask_line` refuses a way to pack above 2, and gives any other ask where its load is lawful.
+use Rattle.load.specs.Load.{load_lawful}
+use mathlib.Core.Path.{ap, ◌∙◌}
+use mathlib.Core.Bool.{Bool}
+use borrow.Author.Tests.{lt-leb}
+use Rattle.command.specs.Grammar.{right_if}
+use Rattle.command.specs.declared.command.Line.TheVariants.{Ask}
+use borrow.Author.Rules.{rules}
+use Rattle.command.proofs.keyword.ask_line.Goals as goal
+
+pub returns-then-y : goal.returns-then-y
+unfolding right_if load_lawful
+returns-then-y c = simp (lt-leb _ _ c.if-y.true)
+
+pub returns : goal.returns
+returns c = let a = c.args in
+    c.right_if.ensures ∙ ap (λ (ok : Bool). right_if ok Ask) c.load_lawful.ensures

@@ -1,0 +1,8 @@
+-- `with_three` is the table of one row.
+use Rattle.command.specs.Grammar.{lookup_keyword, with_three}
+use borrow.Author.Rules.{rules}
+use Rattle.command.proofs.keyword.with_three.Goals as goal
+
+pub returns : goal.returns
+unfolding with_three lookup_keyword
+returns c = simp (c.row.ensures, c.commit_line.ensures)

@@ -1,0 +1,25 @@
+-- `all_printable` stops at the first byte out of range.
+use Prim.Native.Nat.{◌≤◌, ◌-◌}
+use mathlib.Core.Path.{◌≡◌, sym, ◌∙◌}
+use native.Mathlib.Omega.{arith}
+use lib.ListN.{length, drop}
+use borrow.Author.Tests.{not-true, not-false}
+use Rattle.wire.specs.Lists.{all}
+use Rattle.wire.proofs.Lists.{all_stop, all_step, all_end}
+use Rattle.command.specs.Grammar.{printable}
+use borrow.Author.Rules.{rules}
+use Rattle.command.proofs.line.all_printable.Goals as goal
+
+pub returns-then-not-is_printable : goal.returns-then-not-is_printable
+returns-then-not-is_printable c = let l = c in
+    let e = sym c.is_printable.ensures ∙ c.if-not-is_printable.true in
+    sym (all_stop printable l.args.line.now 0 l.loop-i.i (omega arith) e l.loop-i.invariant.1)
+
+pub loop-i-preserved : goal.loop-i-preserved
+loop-i-preserved c = let l = c in
+    let e = sym c.is_printable.ensures ∙ c.if-not-is_printable.false in
+    (omega arith, all_step printable l.args.line.now 0 l.loop-i.i (omega arith) e l.loop-i.invariant.1)
+
+pub returns : goal.returns
+returns c = let l = c in
+    sym (all_end printable l.args.line.now 0 l.loop-i.i (omega arith) l.loop-i.invariant.1)

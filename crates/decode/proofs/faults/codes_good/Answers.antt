@@ -1,0 +1,23 @@
+-- `codes_good` has tested, after i turns, the first i codes.
+use borrow.Author.Rules.{rules}
+use Prim.Native.Nat.{◌≤◌, ◌-◌}
+use mathlib.Core.Path.{◌≡◌, ap, ◌∙◌}
+use native.Mathlib.Omega.{arith}
+use Rattle.rate_code.specs.Editions.{valid_by}
+use Rattle.decode.specs.Read.{mark_of, codes_good}
+use Rattle.wire.proofs.Pieces.{each_start, each_turn, each_end}
+use Rattle.decode.proofs.faults.codes_good.Goals as goal
+
+pub loop-i-init : goal.loop-i-init
+unfolding codes_good
+loop-i-init c = (omega arith, each_start _)
+
+pub loop-i-preserved : goal.loop-i-preserved
+unfolding codes_good
+loop-i-preserved c = let l = c in
+    let mark = mark_of l.args.packet.now in
+    (omega arith, each_turn _ l.loop-i.i l.loop-i.invariant.1 (c.valid-good.ensures ∙ ap (valid_by mark) c.u16_at-code.ensures))
+
+pub returns : goal.returns
+unfolding codes_good
+returns c = let l = c in each_end _ l.loop-i.i l.args.n (omega arith) (omega arith) l.loop-i.invariant.1

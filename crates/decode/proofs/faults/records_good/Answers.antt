@@ -1,0 +1,21 @@
+-- `records_good` has tested, after i turns, the first i records.
+use borrow.Author.Rules.{rules}
+use Prim.Native.Nat.{◌≤◌, ◌-◌}
+use mathlib.Core.Path.{◌≡◌}
+use native.Mathlib.Omega.{arith}
+use Rattle.decode.specs.Read.{records_good}
+use Rattle.wire.proofs.Pieces.{each_start, each_turn, each_end}
+use Rattle.decode.proofs.faults.records_good.Goals as goal
+
+pub loop-i-init : goal.loop-i-init
+unfolding records_good
+loop-i-init c = (omega arith, each_start _)
+
+pub loop-i-preserved : goal.loop-i-preserved
+unfolding records_good
+loop-i-preserved c = let l = c in
+    (omega arith, each_turn _ l.loop-i.i l.loop-i.invariant.1 c.record_fits-good.ensures)
+
+pub returns : goal.returns
+unfolding records_good
+returns c = let l = c in each_end _ l.loop-i.i l.args.n (omega arith) (omega arith) l.loop-i.invariant.1

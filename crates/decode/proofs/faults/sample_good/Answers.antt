@@ -1,0 +1,9 @@
+-- `sample_good` compares the application number with that of p, and asks the rest as the definition does.
+use borrow.Author.Rules.{rules}
+use Rattle.decode.specs.Read.{sample_good}
+use Rattle.decode.proofs.faults.sample_good.Goals as goal
+
+pub returns : goal.returns
+unfolding sample_good
+returns c = let k = c in
+    simp (c.records_good.ensures, k.of_sample.ensures.0, k.application.ensures)

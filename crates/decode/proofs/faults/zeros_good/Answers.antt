@@ -1,0 +1,21 @@
+-- `zeros_good` has tested, after i turns, the first i bytes.
+use borrow.Author.Rules.{rules}
+use Prim.Native.Nat.{◌≤◌, ◌-◌}
+use mathlib.Core.Path.{◌≡◌, refl}
+use native.Mathlib.Omega.{arith}
+use Rattle.decode.specs.Read.{zeros_good}
+use Rattle.wire.proofs.Pieces.{each_start, each_turn, each_end}
+use Rattle.decode.proofs.faults.zeros_good.Goals as goal
+
+pub loop-i-init : goal.loop-i-init
+unfolding zeros_good
+loop-i-init c = (omega arith, each_start _)
+
+pub loop-i-preserved : goal.loop-i-preserved
+unfolding zeros_good
+loop-i-preserved c = let l = c in
+    (omega arith, each_turn _ l.loop-i.i l.loop-i.invariant.1 refl)
+
+pub returns : goal.returns
+unfolding zeros_good
+returns c = let l = c in each_end _ l.loop-i.i l.args.n (omega arith) (omega arith) l.loop-i.invariant.1

@@ -1,0 +1,36 @@
+-- `rates` has filled, after i turns, the first i counts, and each code it reads is valid.
+use borrow.Author.Rules.{rules}
+use Rattle.rate_code.specs.Editions.{least_by, valid_by}
+use Rattle.wire.proofs.Pieces.{table_none, table_turn, table_end, each_at}
+use Prim.Native.Nat.{◌≤◌, ◌-◌}
+use mathlib.Core.Path.{◌≡◌, refl, ap, ◌∙◌}
+use native.Mathlib.Omega.{arith}
+use lib.ListN.{length, take, length-set}
+use Rattle.decode.specs.Read.{mark_of, rates_of, codes_good}
+use Rattle.decode.proofs.fields.rates.Goals as goal
+
+pub loop-i-init : goal.loop-i-init
+unfolding rates_of
+loop-i-init c = (omega arith, table_none _, refl)
+
+pub least_count-requires : goal.least_count-requires
+unfolding codes_good
+least_count-requires c = let l = c in
+    let s = l in
+    ap (valid_by (mark_of s.args.packet.now)) c.u16_at-code.ensures ∙ each_at _ _ l.loop-i.i (omega arith) s.requires.packet_value
+
+pub loop-i-preserved : goal.loop-i-preserved
+unfolding rates_of
+loop-i-preserved c = let l = c in
+    let mark = mark_of l.args.packet.now in
+    let i = l.loop-i.i in (
+      omega arith,
+      table_turn _ l.loop-i.counts i (omega arith) l.loop-i.invariant.1
+          (c.least_count.ensures ∙ ap (least_by mark) c.u16_at-code.ensures),
+      simp length-set l.loop-i.invariant.2,
+    )
+
+pub returns : goal.returns
+unfolding rates_of
+returns c = let l = c in
+    table_end _ l.loop-i.counts l.loop-i.i _ (omega arith) (omega arith) l.loop-i.invariant.2 l.loop-i.invariant.1
