@@ -21,7 +21,7 @@ listing_listed frame time i h tables lt = record {
 pub listing_received : ListingReceived
 unfolding listing_done
 listing_received w i time out z =
-    let p = passed.listing-accepted w.state i _ _ z in
+    let p = passed.listing_accepted w.state i _ _ z in
     rw (eq-eqb _ _ z) (listing_listed w.state.frame time i p.listed w.buffers.tables p.tables_are)
 
 pub listing_carried : ListingCarried

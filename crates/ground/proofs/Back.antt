@@ -37,9 +37,9 @@ accepted_back a st body lb ha hq k mark rates s sum beacons p =
     λ i. record {
       number = carried_out;
       kind = k;
-      application = kinds.application-back a st body lb ha i;
-      sequence = fields.sequence-back a st.sequence st.time (body ++ trailer st) l hq i;
-      time = fields.time-back a st.sequence st.time (body ++ trailer st) l i;
+      application = kinds.application_back a st body lb ha i;
+      sequence = fields.sequence_back a st.sequence st.time (body ++ trailer st) l hq i;
+      time = fields.time_back a st.sequence st.time (body ++ trailer st) l i;
       frame = fields.frame_back a st body lb i;
       mark = mark;
       rates = rates;
@@ -54,14 +54,14 @@ unfolding contents rate_packet
 rate_back st totals boxes s sum h v =
     let B : List ℕ = rate_body st.mark totals boxes s sum in
     let P : List ℕ = packet_of rate_application st B in
-    let l = kinds.rate-length st h totals boxes s sum v in
-    let z = kinds.rate-number st h totals boxes s sum v in
-    let rates = (kinds.rate-codes st h totals boxes s sum v).1 in
-    let settings = kinds.settings-back st h totals boxes s sum v in
-    let table-sum = kinds.table-sum-back st h totals boxes s sum v in
-    let k = kinds.kind-back rate_application st B l (omega arith) Rate kinds.rate-kind in (
+    let l = kinds.rate_length st h totals boxes s sum v in
+    let z = kinds.rate_number st h totals boxes s sum v in
+    let rates = (kinds.rate_codes st h totals boxes s sum v).1 in
+    let settings = kinds.settings_back st h totals boxes s sum v in
+    let table-sum = kinds.table_sum_back st h totals boxes s sum v in
+    let k = kinds.kind_back rate_application st B l (omega arith) Rate kinds.rate_kind in (
       read_accepted P Rate z k
-          ∙ (λ i. accepted Rate P (fields.mark-back rate_application st B l i) (rates i) (settings i) (table-sum i) (zeros beacon_count) 0)
+          ∙ (λ i. accepted Rate P (fields.mark_back rate_application st B l i) (rates i) (settings i) (table-sum i) (zeros beacon_count) 0)
           ∙ accepted_back rate_application st B l (omega arith) h.sequence_fits Rate st.mark _ s sum (zeros beacon_count) 0,
       the_records P Rate z k,
     )
@@ -72,14 +72,14 @@ sample_back st records h v =
     let a : ℕ = application_of_sample st.mark in
     let B : List ℕ = words records in
     let P : List ℕ = packet_of a st B in
-    let l = kinds.sample-length st h records v in
-    let ha = kinds.application-fits st h records v in
-    let z = kinds.sample-number st h records v in
-    let k = kinds.kind-back a st B l ha Sample (kinds.sample-kind st.mark h.mark_fits) in (
+    let l = kinds.sample_length st h records v in
+    let ha = kinds.application_fits st h records v in
+    let z = kinds.sample_number st h records v in
+    let k = kinds.kind_back a st B l ha Sample (kinds.sample_kind st.mark h.mark_fits) in (
       read_accepted P Sample z k
-          ∙ ap (accepted Sample P 0 (zeros rate_count) no_settings 0 (zeros beacon_count)) (fields.mark-back a st B l)
+          ∙ ap (accepted Sample P 0 (zeros rate_count) no_settings 0 (zeros beacon_count)) (fields.mark_back a st B l)
           ∙ accepted_back a st B l ha h.sequence_fits Sample 0 (zeros rate_count) no_settings 0 (zeros beacon_count) st.mark,
-      the_records P Sample z k ∙ fields.body-part a st B l,
+      the_records P Sample z k ∙ fields.body_part a st B l,
     )
 
 pub beacon_back : BeaconBack
@@ -87,12 +87,12 @@ unfolding contents beacon_packet
 beacon_back st beacons h v =
     let B : List ℕ = beacon_body st.mark beacons in
     let P : List ℕ = packet_of beacon_application st B in
-    let l = kinds.beacon-length st h beacons v in
-    let z = kinds.beacon-number st h beacons v in
-    let rates = (kinds.beacon-codes st h beacons v).1 in
-    let k = kinds.kind-back beacon_application st B l (omega arith) Beacon kinds.beacon-kind in (
+    let l = kinds.beacon_length st h beacons v in
+    let z = kinds.beacon_number st h beacons v in
+    let rates = (kinds.beacon_codes st h beacons v).1 in
+    let k = kinds.kind_back beacon_application st B l (omega arith) Beacon kinds.beacon_kind in (
       read_accepted P Beacon z k
-          ∙ (λ i. accepted Beacon P (fields.mark-back beacon_application st B l i) (zeros rate_count) no_settings 0 (rates i) 0)
+          ∙ (λ i. accepted Beacon P (fields.mark_back beacon_application st B l i) (zeros rate_count) no_settings 0 (rates i) 0)
           ∙ accepted_back beacon_application st B l (omega arith) h.sequence_fits Beacon st.mark (zeros rate_count) no_settings 0 _ 0,
       the_records P Beacon z k,
     )

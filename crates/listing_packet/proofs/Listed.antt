@@ -34,7 +34,7 @@ module _ (frame time i : ℕ) (h : i < listing_packets) (tables : List ℕ) (lt 
   li = length_listing i h tables lt frame
 
   byte_at : (k : ℕ) → k < inner_bytes → get_or P (body_at + k) 0 ≡ get_or inner k 0
-  byte_at = back.inner-at listing_application (frame % sequence_counts) time inner li
+  byte_at = back.inner_at listing_application (frame % sequence_counts) time inner li
 
   place_at : (k : ℕ) → k < 8 → get_or P (body_at + k) 0 ≡ get_or (place_bytes frame i) k 0
   unfolding place_bytes
@@ -86,7 +86,7 @@ module _ (frame time i : ℕ) (h : i < listing_packets) (tables : List ℕ) (lt 
   header_is =
       both (both (eq-eqb _ _ (length_enveloped listing_application (frame % sequence_counts) time inner li))
       (back.fields_back listing_application (frame % sequence_counts) time inner li (omega arith)))
-      (eq-eqb _ _ (back.application-back listing_application (frame % sequence_counts) time inner li (omega arith)))
+      (eq-eqb _ _ (back.application_back listing_application (frame % sequence_counts) time inner li (omega arith)))
 
   address_is : address_listed P ≡ true
   unfolding address_listed
