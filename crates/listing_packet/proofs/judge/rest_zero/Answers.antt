@@ -1,0 +1,16 @@
+-- `rest_zero` looks at the three bytes behind the header and at those behind the words of the packet's place.
+use borrow.Author.Rules.{rules}
+use native.Mathlib.Omega.{arith}
+use Rattle.listing_packet.specs.Listing.{rest_zero}
+use Rattle.listing_packet.proofs.ListingLaws.{listed_place}
+use Rattle.listing_packet.proofs.judge.rest_zero.Goals as goal
+
+pub piece_size-n-requires : goal.piece_size-n-requires
+piece_size-n-requires c = let s = c in
+    omega (arith, c.place_in.ensures, listed_place s.args.packet.now s.requires.1)
+
+pub returns : goal.returns
+unfolding rest_zero
+returns c = let z = c in
+    let n = z in
+    simp (c.zeros_good-2.ensures, z.zeros_good.ensures, n.piece_size-n.ensures.0, n.place_in.ensures)

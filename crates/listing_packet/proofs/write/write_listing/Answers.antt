@@ -1,0 +1,27 @@
+-- `write_listing` puts place and words behind the header, and the sum behind all: the listing packet.
+use borrow.Author.Rules.{rules}
+use mathlib.Core.Path.{refl}
+use native.Mathlib.Omega.{arith}
+use mathlib.Core.List.{◌++◌}
+use Rattle.wire.proofs.Bytes.{then}
+use Rattle.packet.specs.Layout.{body_at}
+use Rattle.packet.proofs.Written.{envelope_written}
+use Rattle.listing_packet.specs.Listing.{words_at, place_bytes, piece_of, listing_packet}
+use Rattle.listing_packet.proofs.ListingLaws.{length_listing}
+use Rattle.listing_packet.proofs.write.write_listing.Goals as goal
+
+pub returns : goal.returns
+unfolding listing_packet place_bytes
+returns c = let c4 = c in
+    let c3 = c4 in
+    let c2 = c3 in
+    let c1 = c2 in
+    let s = c1 in
+    let a = s.args in
+    let h = s.requires in
+    let inner = place_bytes a.frame a.i ++ piece_of a.i a.tables.now in
+    envelope_written a.part.now h.0 _ _ _ inner (length_listing a.i h.2 a.tables.now h.1 a.frame)
+    c1.write_header.ensures
+    (then _ body_at (place_bytes a.frame a.i) (piece_of a.i a.tables.now) words_at c2.write_place.ensures
+    c3.write_words.ensures refl (omega arith))
+    c4.write_sum.ensures
