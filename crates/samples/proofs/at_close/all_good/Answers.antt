@@ -1,0 +1,27 @@
+-- The scan of `all_good` has tested what is behind it.
+use Prim.Native.Nat.{◌≤◌, ◌-◌, ◌+◌}
+use mathlib.Core.Bool.{◌&&◌}
+use mathlib.Core.Path.{◌≡◌, refl, ap, ◌∙◌}
+use native.Mathlib.Omega.{arith}
+use lib.ListN.{length, drop}
+use Rattle.wire.specs.Lists.{all}
+use Rattle.wire.proofs.Lists.{scan_step, scan_end}
+use Rattle.sample_record.specs.Record.{record_good}
+use borrow.Author.Rules.{rules}
+use Rattle.samples.proofs.at_close.all_good.Goals as goal
+
+pub loop-i-init : goal.loop-i-init
+loop-i-init c = (omega arith, refl)
+
+pub loop-i-preserved : goal.loop-i-preserved
+loop-i-preserved c = let l = c in
+    let xs = l.args.slots.now in
+    let i = l.loop-i.i in (
+      omega arith,
+      ap (λ b. (l.loop-i.ok && b) && all record_good (drop (i + 1) xs)) c.record_good-ok.ensures
+          ∙ scan_step record_good xs 0 l.loop-i.ok i (omega arith) l.loop-i.invariant.1,
+    )
+
+pub returns : goal.returns
+returns c = let l = c in
+    scan_end record_good l.args.slots.now 0 l.loop-i.ok l.loop-i.i (omega arith) l.loop-i.invariant.1

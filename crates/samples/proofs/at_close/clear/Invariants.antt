@@ -1,0 +1,17 @@
+-- `clear` leaves zeros in the slots that it has passed, and in the end it has passed all.
+use Prim.Native.Nat.{◌≤◌, ◌-◌}
+use mathlib.Core.Path.{◌≡◌, refl, sym, ap, ◌∙◌}
+use native.Mathlib.Omega.{arith}
+use native.Mathlib.Numerals.{add-one}
+use lib.ListN.{length, take}
+use lib.Seq.{take-suc-set, take_all}
+use Rattle.wire.specs.Bytes.{zeros}
+use Rattle.wire.proofs.Bytes.{zeros_more}
+use borrow.Author.Rules.{rules}
+use Rattle.samples.proofs.at_close.clear.Given as goal
+
+abbrev pub invariant-loop-i : goal.invariant-loop-i
+invariant-loop-i l = (l.i ≤ length l.initial.slots) × (length l.slots ≡ length l.initial.slots) × (take l.i l.slots ≡ zeros l.i)
+
+abbrev pub decreases-loop-i : goal.decreases-loop-i
+decreases-loop-i l = length l.initial.slots - l.i

@@ -1,0 +1,6 @@
+-- `eligible` tests the box that `box_of` gives.
+use borrow.Author.Rules.{rules}
+use Rattle.samples.proofs.eligible.Goals as goal
+
+pub returns : goal.returns
+returns c = simp c.box_of-b.ensures
