@@ -69,7 +69,7 @@ pub settings_all : (s : Settings) (ranges : Ranges) (ws : List Waiting) → sett
 unfolding settings_after_all
 settings_all s ranges [] h k = h
 settings_all s ranges (w ∷ ws) h k =
-    settings_all _ ranges ws (settings_kept s w.command ranges h (and_left (given_at ranges w) (all (given_at ranges) ws) k))
+    settings_all (settings_after s w.command) ranges ws (settings_kept s w.command ranges h (and_left (given_at ranges w) (all (given_at ranges) ws) k))
     (and_right (given_at ranges w) (all (given_at ranges) ws) k)
 
 -- the tables keep their length

@@ -6,16 +6,11 @@ use Rattle.wire.specs.Lists.{keep}
 use Rattle.wire.proofs.Lists.{and_left, and_right}
 use Rattle.command_list.specs.CommandList.{most_commands, loads_in, command_list_within}
 use borrow.Author.Rules.{rules}
-use Rattle.command_list.proofs.within.Statement.{statement}
-use Rattle.command_list.proofs.within.Tie as tie
+use Rattle.command_list.proofs.within.Goals as goal
 
-returns : tie.Need-returns
+pub returns-then-o : goal.returns-then-o
 unfolding command_list_within loads_in keep
-returns c =
-    let o = c.before.before.before.args.o in
-    let t = c.if1.true in
+returns-then-o c = let o = c.args.o in
+    let t = c.if-o.true in
     let none = eqb-true o.waiters 0 (and_right (leb o.accepted most_commands) _ t) in
     simp (and_left (leb o.accepted most_commands) _ t, none, le-leb 0 o.accepted (omega arith))
-
-pub within-spec : {M : Type 1} → statement M
-within-spec = tie.close (tie.spec returns (λ c κs. search rules) (λ c. search rules))

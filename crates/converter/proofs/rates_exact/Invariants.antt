@@ -1,0 +1,18 @@
+-- `rates_exact` has tested, after i turns, the first i rates, each the least count of a valid code and so below the limit.
+use borrow.Author.Rules.{rules}
+use Prim.Native.Nat.{◌≤◌, ◌<◌, ◌-◌}
+use mathlib.Core.Path.{◌≡◌, ap, ◌∙◌}
+use native.Mathlib.Omega.{arith}
+use Rattle.rate_code.specs.Rate.{count_limit}
+use Rattle.rate_code.specs.Editions.{first_mark, least_by, valid_by, exact_by}
+use Rattle.rate_code.proofs.EditionLaws.{by_below}
+use Rattle.wire.proofs.Pieces.{each_start, each_turn, each_end, each_at}
+use Rattle.decode.specs.Read.{mark_of, codes_good}
+use Rattle.converter.specs.Convert.{rates_exact}
+use Rattle.converter.proofs.rates_exact.Given as goal
+
+abbrev pub invariant-loop-i : goal.invariant-loop-i
+invariant-loop-i l = (l.i ≤ l.n) × (l.exact ≡ rates_exact first_mark l.i l.packet)
+
+abbrev pub decreases-loop-i : goal.decreases-loop-i
+decreases-loop-i l = l.n - l.i
