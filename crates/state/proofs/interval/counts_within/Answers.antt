@@ -1,0 +1,6 @@
+-- `counts_within` is its three tests: taken, the boxes, the beacons.
+use borrow.Author.Rules.{rules}
+use Rattle.state.proofs.interval.counts_within.Goals as goal
+
+pub returns : goal.returns
+returns c = simp (c.all_at_most-2.ensures, c.all_at_most.ensures)
