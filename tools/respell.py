@@ -120,7 +120,8 @@ def brought(text, own):
 
 
 def turn(text, rename, fields, own, walk=False):
-    """Each word that is a name of the table, but behind a dot only a field, and what a library has in no case."""
+    """Each word that is a name of the table; in a walk a word with dashes behind a dot is a step of the code, unless it is a field.
+    What the file brings from a library stays."""
     others = brought(text, own)
 
     def one(it):
@@ -128,7 +129,7 @@ def turn(text, rename, fields, own, walk=False):
         if new is None:
             return it[0]
         before = it.string[it.start() - 1 : it.start()]
-        if before == "." and it[0] not in fields and not re.search(r"\buse [^\n;{]*$", it.string[: it.start()]):
+        if before == "." and walk and "-" in it[0] and it[0] not in fields:
             return it[0]
         if before == "." and walk and it.string[it.end() : it.end() + 1] == ".":
             return it[0]  # a step of the code, as `c.put-before.ensures`

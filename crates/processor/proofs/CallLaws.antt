@@ -73,7 +73,7 @@ module _ (s : State) (line staging bitmap : List ℕ) (echo : ℕ) where
 
   pub early_passed : (n : ℕ) → n ≡ cond line_sound (cond (bytes_ok line) 0 4) 1 → n ≡ 0 → LineSound
   early_passed n e z =
-      let p = all_passed ((line_sound, cause.bufferOrState) ∷ (bytes_ok line, cause.lineBytes) ∷ []) refl (sym e ∙ z) in
+      let p = all_passed ((line_sound, cause.buffer_or_state) ∷ (bytes_ok line, cause.line_bytes) ∷ []) refl (sym e ∙ z) in
       let q = and_split _ _ p.0 in
       let r = and_split _ _ q.1 in
       let t = and_split _ _ r.0 in

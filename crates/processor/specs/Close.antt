@@ -24,7 +24,7 @@ out_right c out = eqb out (span_bytes (close_span c))
 
 -- "lent buffer .. of other length, or a state over a limit"
 abbrev pub close_checks : (sound : Bool) → List Check
-close_checks sound = (sound, cause.bufferOrState) ∷ []
+close_checks sound = (sound, cause.buffer_or_state) ∷ []
 
 unfoldable pub close_number : State → (tables staging : ℕ) (slots : List ℕ) (out : ℕ) → ℕ
 close_number s tables staging slots out = number_by (close_checks (endable s tables staging slots && out_right s.capacity out))

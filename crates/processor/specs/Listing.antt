@@ -15,7 +15,7 @@ listing_lent tables out = eqb tables table_bytes && eqb out packet_bytes
 
 -- what is lent, and the state, are sound; "14 when i .. is none of these"
 abbrev pub listing_checks : (sound : Bool) (i : ℕ) → List Check
-listing_checks sound i = (sound, cause.bufferOrState) ∷ (ltb i listing_packets, cause.notListed) ∷ []
+listing_checks sound i = (sound, cause.buffer_or_state) ∷ (ltb i listing_packets, cause.not_listed) ∷ []
 
 unfoldable pub listing_number : State → (i tables out : ℕ) → ℕ
 listing_number s i tables out = number_by (listing_checks (within_limits s && listing_lent tables out) i)

@@ -20,7 +20,7 @@ abbrev pub package_by : (number : ℕ) → State → (p staging bitmap echo : Li
 package_by number s p staging bitmap echo = record {
   answer = answer number (cond (is_staged number) (with_staging s (addresses_after s.staging p)) s);
   staging = cond (is_staged number) (staging_after staging s.staging.next p) staging;
-  bitmap = cond (is_staged number) (bitmap_after bitmap s.staging.next (payload_bytes p) (eqb number cause.packageSum)) bitmap;
+  bitmap = cond (is_staged number) (bitmap_after bitmap s.staging.next (payload_bytes p) (eqb number cause.package_sum)) bitmap;
   echo = cond (is_staged number) (staged_echo number s.staging.next p) echo;
 }
 

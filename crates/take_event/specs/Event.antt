@@ -23,7 +23,7 @@ event_lent c tables slots = eqb tables table_bytes && eqb slots (numbers_of c).s
 -- what is lent, and the state, are sound; "event field over its range"; "event after 1,000,000 events"
 abbrev pub event_checks : (sound : Bool) (taken : ℕ) → Event → List Check
 event_checks sound taken e =
-    (sound, cause.bufferOrState) ∷ (in_range e, cause.fieldRange) ∷ (ltb taken most_events, cause.intervalFull) ∷ []
+    (sound, cause.buffer_or_state) ∷ (in_range e, cause.field_range) ∷ (ltb taken most_events, cause.interval_full) ∷ []
 
 unfoldable pub event_number : State → (tables slots : ℕ) → Event → ℕ
 event_number s tables slots e =

@@ -25,21 +25,21 @@ line_lent staging bitmap echo = eqb staging staging_bytes && eqb bitmap bitmap_b
 
 -- what is lent, and the state, are sound; "line over 80 or other byte"; then those of the command
 abbrev pub line_checks : (sound : Bool) (line : List ℕ) (command : List Check) → List Check
-line_checks sound line command = (sound, cause.bufferOrState) ∷ (bytes_ok line, cause.lineBytes) ∷ command
+line_checks sound line command = (sound, cause.buffer_or_state) ∷ (bytes_ok line, cause.line_bytes) ∷ command
 
 -- "unknown keyword, wrong argument"; "a load waits (load, load 0, loadat ..)"; "32 commands this frame". An empty line is none of
 -- these: it "answers 0 and is no command, also after 32". What is judged behind these
 abbrev pub own_checks : (waits full : Bool) → Traits → (behind : List Check) → List Check
 own_checks waits full t behind =
-    (not t.wrong, cause.wrongLine)
-    ∷ (not (t.staging && waits), cause.loadWaiting)
-    ∷ (not (t.command && full), cause.commandLimit)
+    (not t.wrong, cause.wrong_line)
+    ∷ (not (t.staging && waits), cause.load_waiting)
+    ∷ (not (t.command && full), cause.command_limit)
     ∷ behind
 
 -- "15 when a staged byte is bad, after 7; 16 when commit's sum differs from that of the bytes lent below the reach, after 15": by whether
 -- no byte below the reach is bad, and by their sum
 abbrev pub staged_checks : (good : Bool) (sum : ℕ) → Traits → List Check
-staged_checks good sum t = (not (t.load && not good), cause.badStaged) ∷ (sum_agrees t.sum sum, cause.sumDiffers) ∷ []
+staged_checks good sum t = (not (t.load && not good), cause.bad_staged) ∷ (sum_agrees t.sum sum, cause.sum_differs) ∷ []
 
 abbrev pub command_checks : (waits full good : Bool) (sum : ℕ) → Line → List Check
 command_checks waits full good sum l = own_checks waits full (traits_of l) (staged_checks good sum (traits_of l))
@@ -72,7 +72,7 @@ line_echo frame accepted line = cond (eqb (length line) 0) prompt_echo (accepted
 
 -- 5, 6 and 7 echo the error, and of 15 and 16 "both echo as 5"; 1 and 4 leave the echo as it was
 abbrev pub echo_by : (number : ℕ) (accepted refused before : List ℕ) → List ℕ
-echo_by number accepted refused before = cond (eqb number cause.carriedOut) accepted (cond (leb cause.wrongLine number) refused before)
+echo_by number accepted refused before = cond (eqb number cause.carried_out) accepted (cond (leb cause.wrong_line number) refused before)
 
 -- what the call hands back and leaves in the lent echo; staging and bitmap are only read
 pub record LineDone : Type 0 where
@@ -82,7 +82,7 @@ pub record LineDone : Type 0 where
 abbrev pub line_by : (number : ℕ) → State → (line staging echo : List ℕ) → LineDone
 line_by number s line staging echo =
     let l = line_of line (ranges_of s) in
-    let accepted = eqb number cause.carriedOut in
+    let accepted = eqb number cause.carried_out in
     record {
       answer = record {
         number = number;

@@ -23,16 +23,16 @@ pub record Passed (sound waits : Bool) (p : List ℕ) (next n : ℕ) : Type 0 wh
   pub none_waits : not waits ≡ true
   pub is_formed : formed p ≡ true
   pub is_fitting : fits p next ≡ true
-  pub number_tells : eqb n cause.packageSum ≡ not (eqb (received_sum p) (computed_sum p))
+  pub number_tells : eqb n cause.package_sum ≡ not (eqb (received_sum p) (computed_sum p))
 
 pub staged_passed : (sound waits : Bool) (p : List ℕ) (next : ℕ)
     → let n = number_by (package_call_checks sound waits p next) in
     is_staged n ≡ true → Passed sound waits p next n
 staged_passed sound waits p next h =
     let first : List Check =
-    (sound, cause.bufferOrState) ∷ (not waits, cause.loadWaiting) ∷ (formed p, cause.packageForm) ∷ (fits p next, cause.pastStaging) ∷ [] in
+    (sound, cause.buffer_or_state) ∷ (not waits, cause.load_waiting) ∷ (formed p, cause.package_form) ∷ (fits p next, cause.past_staging) ∷ [] in
     let right : Bool = eqb (received_sum p) (computed_sum p) in
-    let k = passed_first is_staged first ((right, cause.packageSum) ∷ []) refl h in
+    let k = passed_first is_staged first ((right, cause.package_sum) ∷ []) refl h in
     record {
       is_sound = k.0;
       none_waits = k.1.0;

@@ -16,7 +16,7 @@ package_lent staging bitmap echo = eqb staging staging_bytes && eqb bitmap bitma
 
 -- what is lent, and the state, are sound; "a load waits (.. package)"; then those of the package itself, 8, 9 and 10
 abbrev pub package_call_checks : (sound waits : Bool) (p : List ℕ) (next : ℕ) → List Check
-package_call_checks sound waits p next = (sound, cause.bufferOrState) ∷ (not waits, cause.loadWaiting) ∷ package_checks p next
+package_call_checks sound waits p next = (sound, cause.buffer_or_state) ∷ (not waits, cause.load_waiting) ∷ package_checks p next
 
 unfoldable pub package_call_number : State → (p : List ℕ) (staging bitmap echo : ℕ) → ℕ
 package_call_number s p staging bitmap echo =
@@ -25,11 +25,11 @@ package_call_number s p staging bitmap echo =
 -- 10 is the one refusal that changes something: "all but staging, addresses, echo"; "the tally keeping which staged bytes are bad; 10
 -- changes that too"
 abbrev pub is_staged : (number : ℕ) → Bool
-is_staged number = eqb number cause.carriedOut || eqb number cause.packageSum
+is_staged number = eqb number cause.carried_out || eqb number cause.package_sum
 
 -- "A the address before, N the bytes placed"; ckserr "with received and computed sum for OK"
 abbrev pub staged_echo : (number next : ℕ) (p : List ℕ) → List ℕ
 staged_echo number next p =
-    cond (eqb number cause.carriedOut)
+    cond (eqb number cause.carried_out)
     (package_ok_echo next (payload_bytes p))
     (package_error_echo next (payload_bytes p) (received_sum p) (computed_sum p))

@@ -11,7 +11,7 @@ use Rattle.state.specs.Limits.{within_limits}
 
 -- the state is sound; "reading after 60 readings"
 abbrev pub reading_checks : (sound : Bool) (readings : ℕ) → List Check
-reading_checks sound readings = (sound, cause.bufferOrState) ∷ (ltb readings most_readings, cause.intervalFull) ∷ []
+reading_checks sound readings = (sound, cause.buffer_or_state) ∷ (ltb readings most_readings, cause.interval_full) ∷ []
 
 unfoldable pub reading_number : State → ℕ
 reading_number s = number_by (reading_checks (within_limits s) s.interval.readings)

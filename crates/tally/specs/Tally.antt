@@ -339,22 +339,22 @@ judged b t r f q = record { carried = b; next = t; done = r; facts = f; refused 
 unfoldable pub tallied : Tally → Lending → Request → Judged
 tallied t l (event e) =
     let n = event_number_for t l e in
-    judged (is_zero n) (event_joined t e) (answered cause.carriedOut) one_event (answered n)
+    judged (is_zero n) (event_joined t e) (answered cause.carried_out) one_event (answered n)
 tallied t l (reading c) =
     let n = reading_number_for t in
-    judged (is_zero n) (read t c.counts) (answered cause.carriedOut) nothing (answered n)
+    judged (is_zero n) (read t c.counts) (answered cause.carried_out) nothing (answered n)
 tallied t l (line bytes echo) =
     let n = line_number_for t l bytes echo in
     let sum = sum_returned (line_for t bytes) (sum_for t l.staging) in
-    judged (is_zero n) (line_taken t (line_for t bytes)) (echoed cause.carriedOut sum (line_echo (frame_of t) t.commands.accepted bytes)) nothing
-    (echoed n 0 (cond (leb cause.wrongLine n) (refused_echo bytes) echo))
+    judged (is_zero n) (line_taken t (line_for t bytes)) (echoed cause.carried_out sum (line_echo (frame_of t) t.commands.accepted bytes)) nothing
+    (echoed n 0 (cond (leb cause.wrong_line n) (refused_echo bytes) echo))
 tallied t l (load_package bytes echo) =
     let n = package_number_for t l bytes echo in
     judged (is_staged n) (package_placed t bytes) (echoed n 0 (staged_echo n t.addresses.next bytes)) nothing (echoed n 0 echo)
 tallied t l (listing i time out) =
     let n = listing_number_for t l i out in
     let p = listing_for t i time in
-    judged (is_zero n) t (listed cause.carriedOut (written_listing p)) (one_listing p) (listed n out)
+    judged (is_zero n) t (listed cause.carried_out (written_listing p)) (one_listing p) (listed n out)
 
 -- a call that is refused changes nothing; and no call changes a buffer that is not the processor's own
 abbrev pub tallied_as : Tally → Lending → Judged → Done Tally Answered
