@@ -1,0 +1,28 @@
+-- `event_number` goes through the three checks of an event in their order.
+use mathlib.Core.Path.{◌≡◌, sym}
+use mathlib.Core.Bool.{true, false, ◌&&◌}
+use borrow.Author.Tests.{not-true, not-false}
+use lib.Dec.{eqb}
+use Rattle.tables.specs.Tables.{table_bytes}
+use Rattle.take_event.specs.Event.{event_number}
+use borrow.Author.Rules.{rules}
+use Rattle.take_event.proofs.event_number.Goals as goal
+
+pub returns-then-not-limits-lent : goal.returns-then-not-limits-lent
+unfolding event_number
+returns-then-not-limits-lent c = let w = c in
+    let n = w in
+    let a = n.args in
+    let e : (w.limits_hold-limits.result && (eqb a.tables table_bytes && eqb a.slots n.numbers_of-numbers.result.slots)) ≡ false =
+    c.if-not-limits-lent.true in
+    simp (sym w.limits_hold-limits.ensures, sym n.numbers_of-numbers.ensures, e)
+
+pub returns : goal.returns
+unfolding event_number
+returns c = let r = c in
+    let w = r in
+    let n = w in
+    let a = n.args in
+    let e : (w.limits_hold-limits.result && (eqb a.tables table_bytes && eqb a.slots n.numbers_of-numbers.result.slots)) ≡ true =
+    r.if-not-limits-lent.false in
+    simp (sym w.limits_hold-limits.ensures, sym n.numbers_of-numbers.ensures, e, c.unless.ensures, c.unless-full.ensures, r.in_range-range.ensures)

@@ -1,0 +1,7 @@
+-- `command_number` goes through the three checks of a command in their order.
+use borrow.Author.Rules.{rules}
+use Rattle.take_line.proofs.command_number.Goals as goal
+
+pub returns : goal.returns
+returns c = let free = c in
+    simp (c.unless.ensures, free.unless-free.ensures, free.unless-room.ensures)

@@ -1,0 +1,20 @@
+-- `commands_after` counts a command, where there is room for it, with what it leaves waiting; any other line changes no commands.
+use mathlib.Core.Path.{◌≡◌, ap, ◌∙◌}
+use native.Mathlib.Omega.{arith}
+use borrow.Author.Tests.{not-true, not-false}
+use Prim.Native.Nat.{◌<◌}
+use Rattle.command_list.specs.CommandList.{most_commands}
+use Rattle.command_list.proofs.CommandListLaws.{room}
+use Rattle.take_line.proofs.commands_after.Goals as goal
+
+pub returns-then-not-t : goal.returns-then-not-t
+returns-then-not-t c = simp (not-true c.args.t.command c.if-not-t.true)
+
+pub accept-requires : goal.accept-requires
+accept-requires c = let s = c in
+    let r : s.args.o.accepted < most_commands =
+    room s.args.o (rw (not-false s.args.t.command c.if-not-t.false) at s.requires.1) in
+    (omega (arith, s.requires.0), r)
+
+pub returns : goal.returns
+returns c = simp (c.accept.ensures, not-false c.args.t.command c.if-not-t.false)

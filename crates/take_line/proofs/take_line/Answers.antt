@@ -1,0 +1,48 @@
+-- Past 1 and 4 a line is refused by its command's checks with the error echo, or accepted.
+use mathlib.Core.Path.{◌≡◌, sym, ap, ◌∙◌}
+use Prim.Native.Nat.{ℕ}
+use mathlib.Core.Bool.{Bool, ◌&&◌, not, cond}
+use borrow.Author.Tests.{eq-eqb, ne_eqb}
+use lib.Dec.{eqb, leb}
+use lib.ListN.{length}
+use mathlib.Core.List.{List}
+use Rattle.causes.specs.Checks.{Check, number_by}
+use Rattle.command.specs.declared.command.Line.{Line}
+use Rattle.command.specs.Asked.{traits_of}
+use Rattle.command.specs.Grammar.{line_of}
+use Rattle.load.specs.Bitmap.{none_bad, staged_sum}
+use Rattle.load.proofs.StagingLaws.{addresses_are}
+use Rattle.command_list.specs.CommandList.{load_waits, commands_full}
+use Rattle.command_list.proofs.CommandListLaws.{commands_are}
+use Rattle.command.specs.declared.ranges.Ranges.{Ranges}
+use Rattle.state.specs.Limits.{ranges_of}
+use Rattle.state.proofs.LimitLaws.{state_limits}
+use Rattle.take_line.specs.Line.{state_checks, sum_returned, line_by}
+use Rattle.take_line.specs.Judged.{JudgedAs}
+use Rattle.take_line.proofs.LineLaws.{command_accepts, command_five, judged_same}
+use borrow.Author.Rules.{rules}
+use Rattle.take_line.proofs.take_line.Goals.{After-judge-judged, Start}
+use Rattle.take_line.proofs.take_line.Goals as goal
+
+-- what the line is, and what it is judged by
+abbrev asked : (s : Start) → Line
+asked s = line_of s.args.line.now (ranges_of s.args.state)
+
+abbrev checks : (s : Start) → List Check
+checks s = state_checks s.args.state s.args.line.now s.args.staging.now s.args.bitmap.now
+
+abbrev sum : (s : Start) → ℕ
+sum s = staged_sum s.args.staging.now s.args.state.staging.reach
+
+abbrev good : (s : Start) → Bool
+good s = none_bad s.args.bitmap.now s.args.state.staging.reach
+
+pub judge-judged-requires : goal.judge-judged-requires
+judge-judged-requires c = let p = c in
+    let s = (let q = p in q) in
+    let st = s.args.state in
+    (s.requires.staging_len.0, s.requires.staging_len.1, (addresses_are st.staging (state_limits st s.requires.state_value.0).staging).1)
+
+pub write_echo-requires : goal.write_echo-requires
+write_echo-requires c = let s = c in
+    let st = s.args.state in record { echo_len = s.requires.echo_len; accepted_le_most_commands = (commands_are st.commands (ranges_of st) (state_limits st s.requires.state_value.0).commands).accepted_most }

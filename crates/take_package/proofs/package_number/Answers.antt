@@ -1,0 +1,11 @@
+-- `package_number` goes through the call's checks, then the package's own.
+use Rattle.load.specs.Staging.{package_number}
+use Rattle.take_package.specs.Package.{package_call_number}
+use borrow.Author.Rules.{rules}
+use Rattle.take_package.proofs.package_number.Goals as goal
+
+pub returns : goal.returns
+unfolding package_call_number package_number
+returns c = let j = c in
+    let l = j in
+    simp (c.unless.ensures, c.unless-free.ensures, j.judge-judged.ensures, l.load_waits-waits.ensures, l.within_limits-limits.ensures)
