@@ -6,7 +6,7 @@ ready() {
     local folder=$1 program
     shift
     if [ -z "$folder" ]; then
-        rt check "$@" > /dev/null
+        tests/build.sh "$@" 2> /dev/null
         folder=target/bin
     fi
     (cd reference && cargo build --release --offline --quiet)

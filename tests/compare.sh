@@ -7,7 +7,7 @@
 # proved program must be what the second implementation prints, and the proved program must print the same.
 # The fixed set ends with archives that convert takes there and back.
 # A difference prints the seed and the first differing line. At the end: how often each number was answered.
-# The proved programs stand in target/bin (rt check); the second implementation is built here.
+# The proved programs stand in target/bin (tests/build.sh); the second implementation is built here.
 set -u
 cd "$(dirname "$0")/.." || exit 1
 proved=$PWD/target/bin

@@ -8,7 +8,6 @@ Prints each case that fails and what differs. The last line is 'N passed, M fail
 import errno
 import os
 import resource
-import signal
 import subprocess
 import tempfile
 
@@ -91,7 +90,8 @@ def little_memory():
 
 
 def failures():
-    """Reads and writes that fail are told; a reader that has closed the pipe is not. Interrupted ones change nothing."""
+    """Reads and writes that fail are told; a reader that has closed the pipe is not, and the run ends quietly, since a
+    Rattle program ignores the signal. Interrupted ones change nothing."""
     with tempfile.TemporaryDirectory() as room:
         descriptor = os.open(room, os.O_RDONLY)
         _, lines, _ = run(["second"], stdin=descriptor)
@@ -105,7 +105,7 @@ def failures():
     os.close(out)
     _, lines, status = run(["second"], input=OLD[0], stdout=pipe)
     os.close(pipe)
-    check("convert: nobody reads", lines + f"{status}\n", [str(-signal.SIGPIPE)])
+    check("convert: nobody reads", lines + f"{status}\n", ["0"])
     with interrupting() as environment:
         check_run("interrupted, three bytes at a time", ["second"], b"".join(ARCHIVE), written(ARCHIVE, paper.CONVERTED),
                   [counted(ARCHIVE, paper.CONVERTED)], env=environment)

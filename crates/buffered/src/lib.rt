@@ -3,6 +3,7 @@
 
 pub mod files;
 pub mod input;
+mod reason;
 pub mod text;
 pub mod transfer;
 pub mod turns;

@@ -2,7 +2,7 @@
 // written out. Once a read or a write has failed, `at` is OVER: no more text is taken, and no more input read.
 use crate::transfer::{tell, write_all};
 use echo::hex_digit;
-use libc::{EPIPE, STDOUT_FILENO};
+use std::io::ErrorKind;
 use wire::bits::wide32;
 
 pub const TEXT_BYTES: usize = 65536;
@@ -11,28 +11,30 @@ pub const TEXT_BYTES: usize = 65536;
 pub const OVER: usize = usize::MAX;
 
 // Writes the bytes to standard output; whether all of them. That nobody reads them any more is not told.
-pub fn print(bytes: &[u8]) -> bool {
-    let mut name = io::buffer();
-    let n = os::arg(0, &mut name);
-    let printed = write_all(STDOUT_FILENO, bytes);
-    if !printed & (os::errno() != EPIPE) {
-        tell(&name[..n], b"cannot write standard output");
+pub fn print(rt: &HostRuntime, bytes: &[u8]) -> bool {
+    match write_all(&mut rt.stdout(), bytes) {
+        Ok(()) => true,
+        Err(error) => {
+            if error.kind() != ErrorKind::BrokenPipe {
+                tell(rt, b"cannot write standard output", error);
+            }
+            false
+        }
     }
-    printed
 }
 
 // Writes out what is filled.
-pub fn flush(text: &[u8], at: &mut usize) {
+pub fn flush(rt: &HostRuntime, text: &[u8], at: &mut usize) {
     let n = *at;
     if n <= text.len() {
-        *at = if print(&text[..n]) { 0 } else { OVER };
+        *at = if print(rt, &text[..n]) { 0 } else { OVER };
     }
 }
 
 // One byte.
-pub fn byte(text: &mut [u8], at: &mut usize, b: u8) {
+pub fn byte(rt: &HostRuntime, text: &mut [u8], at: &mut usize, b: u8) {
     if text.len() <= *at {
-        flush(text, at);
+        flush(rt, text, at);
     }
     let i = *at;
     if i < text.len() {
@@ -41,52 +43,52 @@ pub fn byte(text: &mut [u8], at: &mut usize, b: u8) {
     }
 }
 
-pub fn bytes(text: &mut [u8], at: &mut usize, s: &[u8]) {
+pub fn bytes(rt: &HostRuntime, text: &mut [u8], at: &mut usize, s: &[u8]) {
     let mut i: usize = 0;
     while i < s.len() {
-        byte(text, at, s[i]);
+        byte(rt, text, at, s[i]);
         i += 1;
     }
 }
 
 // The digits of a number, in base ten.
-pub fn decimal(text: &mut [u8], at: &mut usize, n: u64) {
+pub fn decimal(rt: &HostRuntime, text: &mut [u8], at: &mut usize, n: u64) {
     let mut digits = [0u8; 20];
     let k = io::decimal(n, &mut digits);
-    bytes(text, at, &digits[..k]);
+    bytes(rt, text, at, &digits[..k]);
 }
 
 // A space and a number.
-pub fn number(text: &mut [u8], at: &mut usize, n: u64) {
-    byte(text, at, b' ');
-    decimal(text, at, n);
+pub fn number(rt: &HostRuntime, text: &mut [u8], at: &mut usize, n: u64) {
+    byte(rt, text, at, b' ');
+    decimal(rt, text, at, n);
 }
 
 // A space before each number.
-pub fn numbers(text: &mut [u8], at: &mut usize, ns: &[u32]) {
+pub fn numbers(rt: &HostRuntime, text: &mut [u8], at: &mut usize, ns: &[u32]) {
     let mut i: usize = 0;
     while i < ns.len() {
-        number(text, at, wide32(ns[i]));
+        number(rt, text, at, wide32(ns[i]));
         i += 1;
     }
 }
 
 // Two digits for each byte.
-pub fn hex(text: &mut [u8], at: &mut usize, s: &[u8]) {
+pub fn hex(rt: &HostRuntime, text: &mut [u8], at: &mut usize, s: &[u8]) {
     let mut i: usize = 0;
     while i < s.len() {
         let b = s[i];
-        byte(text, at, hex_digit(b / 16));
-        byte(text, at, hex_digit(b % 16));
+        byte(rt, text, at, hex_digit(b / 16));
+        byte(rt, text, at, hex_digit(b % 16));
         i += 1;
     }
 }
 
-pub fn line_end(text: &mut [u8], at: &mut usize) {
-    byte(text, at, b'\n');
+pub fn line_end(rt: &HostRuntime, text: &mut [u8], at: &mut usize) {
+    byte(rt, text, at, b'\n');
 }
 
 // What a bad kind or a short body prints.
-pub fn bad_record(text: &mut [u8], at: &mut usize) {
-    bytes(text, at, b"bad record\n");
+pub fn bad_record(rt: &HostRuntime, text: &mut [u8], at: &mut usize) {
+    bytes(rt, text, at, b"bad record\n");
 }

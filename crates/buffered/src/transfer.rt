@@ -2,75 +2,114 @@
 // error.
 ghost use Rattle.std.specs.Prelude.{◌≡◌, ◌≤◌, length};
 
+use crate::reason::write_reason;
 use crate::turns::MOST_TURNS;
-use libc::{EINTR, STDERR_FILENO};
+use std::env::Env;
+use std::io::{Error, ErrorKind, Read, Result, Write};
 
 // What one read or write came to: how many bytes it moved; whether none will follow, as at the end of the input or after
-// a failure; and whether it failed.
+// a failure; and the failure, if it failed.
 #[derive(Clone, Copy)]
 pub struct Moved {
     pub bytes: usize,
     pub ended: bool,
-    pub failed: bool,
+    pub failed: Option<Error>,
+}
+
+// Whether a signal has interrupted the call.
+fn is_interrupted(error: Error) -> bool {
+    error.kind() == ErrorKind::Interrupted
 }
 
 // A call that a signal interrupts has moved nothing, and has not failed.
-fn outcome(answer: isize, bytes: usize) -> Moved
+fn outcome(error: Option<Error>, bytes: usize) -> Moved
     ensures { result.bytes ≡ bytes }
 {
-    let failed = (answer < 0) & (os::errno() != EINTR);
-    Moved {
-        bytes,
-        ended: failed | (answer == 0),
-        failed,
+    match error {
+        None => Moved {
+            bytes,
+            ended: bytes == 0,
+            failed: None,
+        },
+        Some(e) => {
+            let failed = !is_interrupted(e);
+            Moved {
+                bytes,
+                ended: failed,
+                failed: if failed { error } else { None },
+            }
+        }
     }
 }
 
 // One read, to the start of the part.
-pub fn read(fd: i32, part: &mut [u8]) -> Moved
+pub fn read<R: Read>(from: &mut R, part: &mut [u8]) -> Moved
     ensures { result.bytes ≤ length part.old }
 {
-    let got = libc::read(fd, part);
-    outcome(got, io::count(got, part))
+    match from.read(part) {
+        Ok(n) => outcome(None, n),
+        Err(e) => outcome(Some(e), 0),
+    }
 }
 
 // One write.
-fn write(fd: i32, bytes: &[u8]) -> Moved
+fn write<W: Write>(to: &mut W, bytes: &[u8]) -> Moved
     ensures { result.bytes ≤ length bytes.now }
 {
-    let put = libc::write(fd, bytes);
-    outcome(put, io::count(put, bytes))
+    match to.write(bytes) {
+        Ok(n) => outcome(None, n),
+        Err(e) => outcome(Some(e), 0),
+    }
 }
 
-// Writes the bytes; whether all of them.
-pub fn write_all(fd: i32, bytes: &[u8]) -> bool {
+// Writes all the bytes, or says why not.
+pub fn write_all<W: Write>(to: &mut W, bytes: &[u8]) -> Result<()> {
     let mut from: usize = 0;
     let mut turns = MOST_TURNS;
     while 0 < turns {
         if from == bytes.len() {
-            return true;
+            return Ok(());
         }
-        let put = write(fd, &bytes[from..]);
+        let put = write(to, &bytes[from..]);
         if put.ended {
-            return false;
+            return Err(put.failed.unwrap_or(Error::from(ErrorKind::WriteZero)));
         }
         from += put.bytes;
         turns -= 1;
     }
-    false
+    Err(Error::from(ErrorKind::Interrupted))
 }
 
-// Writes the digits of a number, in base ten; whether all of them.
-pub fn write_decimal(fd: i32, n: u64) -> bool {
+// Writes the digits of a number, in base ten.
+pub fn write_decimal<W: Write>(to: &mut W, n: u64) -> Result<()> {
     let mut digits = [0u8; 20];
     let k = io::decimal(n, &mut digits);
-    write_all(fd, &digits[..k])
+    write_all(to, &digits[..k])
 }
 
-// A line on standard error: the program's name, what it could not do, and the system's text for the reason, as the call
-// that failed has left it. Asking for the name sets the reason anew, so a caller asks before that call.
-pub fn tell<'a>(name: &'a [u8], what: &'a [u8]) {
-    write_all(STDERR_FILENO, name);
-    write_all(STDERR_FILENO, b": ");
-    os::fail(what);
+// The longest name of a program that is told.
+const NAME_BYTES: usize = 4096;
+
+// Writes the program's name.
+fn write_name<W: Write>(rt: &HostRuntime, to: &mut W) -> Result<()> {
+    let mut name = [0u8; NAME_BYTES];
+    match rt.arg(0, &mut name) {
+        Ok(n) => write_all(to, &name[..n]),
+        Err(_) => Ok(()),
+    }
+}
+
+// A line of the program's name, what it could not do, and the system's text for the reason.
+fn write_failure<W: Write>(rt: &HostRuntime, to: &mut W, what: &[u8], error: Error) -> Result<()> {
+    write_name(rt, to)?;
+    write_all(to, b": ")?;
+    write_all(to, what)?;
+    write_all(to, b": ")?;
+    write_reason(to, error)?;
+    write_all(to, b"\n")
+}
+
+// The same on standard error. That it cannot be told is not told.
+pub fn tell(rt: &HostRuntime, what: &[u8], error: Error) {
+    let _ = write_failure(rt, &mut rt.stderr(), what, error);
 }

@@ -11,9 +11,9 @@ mod report;
 use buffered::input::read_full;
 use buffered::text::print;
 use buffered::turns::{MOST_TURNS, left};
-use libc::STDIN_FILENO;
 use packet::layout::PACKET_BYTES;
 use rate_code::editions::{CONVERTED_MARK, FIRST_MARK};
+use std::env::{Env, FillError};
 use wire::words::same;
 
 // So many packets are read and written at a time.
@@ -21,42 +21,50 @@ const BLOCK_PACKETS: usize = 480;
 
 const BLOCK_BYTES: usize = PACKET_BYTES * BLOCK_PACKETS;
 
+// Whether there are no more arguments than one.
+fn is_alone(rt: &HostRuntime) -> bool {
+    let mut argument = [0u8; 1];
+    matches!(rt.arg(2, &mut argument), Err(FillError::NotPresent))
+}
+
 // Whether the only argument is this word.
-fn asked_for(word: &[u8]) -> bool {
+fn asked_for(rt: &HostRuntime, word: &[u8]) -> bool {
     let mut argument = [0u8; 8];
-    let n = os::arg(1, &mut argument);
-    (os::arg_count() == 2) & same(&argument[..n], word)
+    match rt.arg(1, &mut argument) {
+        Ok(n) => is_alone(rt) & same(&argument[..n], word),
+        Err(_) => false,
+    }
 }
 
 // Converts block after block until the input ends, or a read or a write fails.
-fn run(wanted: u8, block: &mut [u8], out: &mut [u8])
+fn run(rt: &HostRuntime, wanted: u8, block: &mut [u8], out: &mut [u8])
     requires { length block.old ≡ length out.old }
 {
     let mut counts = counts::none();
     let mut turns = MOST_TURNS;
     let mut rest: usize = 0;
     while 0 < turns {
-        let filled = read_full(STDIN_FILENO, block, b"cannot read standard input");
+        let filled = read_full(rt, &mut rt.stdin(), block, b"cannot read standard input");
         let n = filled.bytes;
         counts = block::write_block(wanted, &block[..n], &mut out[..n], counts);
-        if !print(&out[..n]) {
+        if !print(rt, &out[..n]) {
             return;
         }
         rest = n % PACKET_BYTES;
-        turns = left(turns, (n == block.len()) & !filled.failed);
+        turns = left(turns, (n == block.len()) & filled.failed.is_none());
     }
-    report::ends_within(rest);
-    report::counted(counts);
+    report::ends_within(rt, rest);
+    report::counted(rt, counts);
 }
 
-fn main() {
+fn main(rt: HostRuntime) {
     let mut block = [0u8; BLOCK_BYTES];
     let mut out = [0u8; BLOCK_BYTES];
-    if asked_for(b"second") {
-        run(CONVERTED_MARK, &mut block, &mut out);
-    } else if asked_for(b"first") {
-        run(FIRST_MARK, &mut block, &mut out);
+    if asked_for(&rt, b"second") {
+        run(&rt, CONVERTED_MARK, &mut block, &mut out);
+    } else if asked_for(&rt, b"first") {
+        run(&rt, FIRST_MARK, &mut block, &mut out);
     } else {
-        report::usage();
+        report::usage(&rt);
     }
 }

@@ -19,7 +19,7 @@ use Rattle.packet.specs.Layout.{packet_bytes, body_at, frame_at, mark_at, sum_at
 use Rattle.packet.specs.Packet.{summed}
 use Rattle.decode.specs.declared.kind.Kind.{Kind}
 use Rattle.decode.specs.declared.kind.Kind.TheVariants.{Rate, Sample, Beacon, None}
-use Rattle.decode.specs.Read.{application_of, kind_of, mark_of, code_at, rate_at, codes_good, body_good, read_checks, read_number}
+use Rattle.decode.specs.Read.{application_of, kind_of, mark_of, code_at, codes_good, body_good, read_checks, read_number}
 use Rattle.decode.proofs.Reading.{passed, accepted_is, accepted_length, accepted_body, accepted_rate, accepted_beacon}
 use Rattle.decode.proofs.Reading.{rate_accepted, beacon_accepted, rate_codes, beacon_codes}
 use Rattle.ground.specs.Ground.{contents, read_of}

@@ -2,11 +2,11 @@
 use mathlib.Core.Path.{◌≡◌, refl}
 use mathlib.Core.Bool.{false, ◌&&◌}
 use mathlib.Core.List.{List, ◌++◌}
-use Prim.Native.Nat.{ℕ, ◌+◌, ◌-◌, ◌*◌, ◌%◌, ◌<◌}
+use Prim.Native.Nat.{ℕ, ◌-◌, ◌*◌, ◌%◌, ◌<◌}
 use native.Mathlib.Omega.{arith}
 use lib.ListN.{length, take, drop}
 use Rattle.causes.proofs.CheckLaws.{lowest_by}
-use Rattle.packet.specs.Layout.{packet_bytes, secondary_flag, sequence_counts}
+use Rattle.packet.specs.Layout.{packet_bytes, sequence_counts}
 use Rattle.decode.specs.Read.{fields_good, application_of}
 use lib.Dec.{eqb}
 use borrow.Author.Tests.{eq-eqb, ne_eqb}

@@ -1,13 +1,13 @@
 -- A gatherer that is given all 250 packets of one table and none of another has that table, and counts what is missing. Assumes nothing.
 use mathlib.Core.Path.{◌≡◌, refl, sym, ap, ◌∙◌}
-use mathlib.Core.Logic.{◌⊎◌, inl, inr, ⊎_elim}
+use mathlib.Core.Logic.{inl, inr, ⊎_elim}
 use mathlib.Core.Bool.{Bool, true, false, not, ◌&&◌, ◌||◌, false≢true}
 use mathlib.Core.List.{List, [], ◌∷◌}
 use Prim.Native.Nat.{ℕ, zero, suc, ◌+◌, ◌-◌, ◌*◌, ◌/◌, ◌≤◌, ◌<◌}
 use native.Mathlib.Omega.{arith}
 use native.Mathlib.Nat.{eq-or-lt_of_le}
 use lib.Dec.{eqb, ltb}
-use lib.ListN.{length, take, drop, get_or, set, replicate, length-take, length-set, length-replicate, get_or-replicate}
+use lib.ListN.{length, take, drop, get_or, set, length-take, length-set, length-replicate, get_or-replicate}
 use lib.Seq.{get_or-set_same, get_or-set_other, get_or-take, get_or-drop, ext_get_or}
 use borrow.Author.Tests.{eqb-true, eqb-false, eq-eqb, ltb-true, ltb-false, not-false}
 use Rattle.wire.specs.Bits.{bit_of}
@@ -17,13 +17,11 @@ use Rattle.wire.proofs.Bytes.{length_put, put_inside, put_before, put_behind, le
 use Rattle.wire.proofs.Lists.{decide}
 use Rattle.wire.proofs.Pieces.{count_same, count_none}
 use Rattle.tables.specs.Tables.{table_bytes}
-use Rattle.packet.specs.Layout.{packet_bytes}
-use Rattle.listing_packet.specs.Listing.{listing_packets, piece_bytes, piece_size, words_at, address_of, address_in, place_in, words_in, listing_packet}
+use Rattle.listing_packet.specs.Listing.{listing_packets, piece_bytes, piece_size, words_at, address_of, address_in, place_in, words_in}
 use Rattle.listing_packet.specs.Listing.{gather_number}
 use Rattle.listing_packet.proofs.ListingLaws.{gather_passes}
 use Rattle.listing_packet.proofs.Listed.{listing_accepted, listing_place, listing_words, listing_address}
-use Rattle.gatherer.specs.declared.Gathered.{Gathered}
-use Rattle.gatherer.specs.Gather.{none_gathered, missing_of, with_packet, gather_done}
+use Rattle.gatherer.specs.Gather.{missing_of, with_packet, gather_done}
 use Rattle.gatherer.specs.GatherTheorems.{Gatherer, given, given_all, fresh_gatherer, ListingOf, NoneOther, Among, TableGathered}
 use Rattle.gatherer.specs.GatherTheorems.{NoneMissing, has_come, MissingCounted}
 

@@ -39,36 +39,44 @@ fn line(state: State, staging: &[u8], body: &[u8]) -> Answer
 }
 
 // The line of a refused call.
-pub fn print_refusal(text: &mut [u8], at: &mut usize, number: u8) {
-    buffered::text::bytes(text, at, b"refused");
-    buffered::text::number(text, at, number as u64);
-    buffered::text::line_end(text, at);
+pub fn print_refusal(rt: &HostRuntime, text: &mut [u8], at: &mut usize, number: u8) {
+    buffered::text::bytes(rt, text, at, b"refused");
+    buffered::text::number(rt, text, at, number as u64);
+    buffered::text::line_end(rt, text, at);
 }
 
-fn print_box(text: &mut [u8], at: &mut usize, counts: Counts, b: usize)
+fn print_box(rt: &HostRuntime, text: &mut [u8], at: &mut usize, counts: Counts, b: usize)
     requires { (1 ≤ b) × (b ≤ 116) }
 {
     let n = counts.boxes[b - 1];
-    buffered::text::number(text, at, n as u64);
+    buffered::text::number(rt, text, at, n as u64);
 }
 
 // The ended frame, taken, boxes 5, 6 and 7, and the filled slots. A refused close is printed as a refusal.
-fn print_closed(text: &mut [u8], at: &mut usize, frame: u16, number: u8, ended: Summary) {
+fn print_closed(
+    rt: &HostRuntime,
+    text: &mut [u8],
+    at: &mut usize,
+    frame: u16,
+    number: u8,
+    ended: Summary,
+) {
     if number != causes::CARRIED_OUT {
         return;
     }
     let counts = ended.counts;
-    buffered::text::decimal(text, at, frame as u64);
-    buffered::text::number(text, at, ended.taken as u64);
-    print_box(text, at, counts, 5);
-    print_box(text, at, counts, 6);
-    print_box(text, at, counts, 7);
-    buffered::text::number(text, at, ended.filled as u64);
-    buffered::text::line_end(text, at);
+    buffered::text::decimal(rt, text, at, frame as u64);
+    buffered::text::number(rt, text, at, ended.taken as u64);
+    print_box(rt, text, at, counts, 5);
+    print_box(rt, text, at, counts, 6);
+    print_box(rt, text, at, counts, 7);
+    buffered::text::number(rt, text, at, ended.filled as u64);
+    buffered::text::line_end(rt, text, at);
 }
 
 // The end of the interval. Its packets are not printed.
 fn close(
+    rt: &HostRuntime,
     state: State,
     tables: &mut [u8],
     staging: &[u8],
@@ -92,7 +100,7 @@ fn close(
     let mut packets = [0u8; stream::start::OUT_BYTES];
     let closed = processor::close::close(state, time, tables, staging, slots, &mut packets);
     let ended = closed.summary;
-    print_closed(text, at, state.frame, closed.number, ended);
+    print_closed(rt, text, at, state.frame, closed.number, ended);
     let after = closed.state;
     Answer {
         number: closed.number,
@@ -102,6 +110,7 @@ fn close(
 
 // One record that is no event.
 pub fn carry_out(
+    rt: &HostRuntime,
     kind: u8,
     state: State,
     tables: &mut [u8],
@@ -121,13 +130,14 @@ pub fn carry_out(
 {
     match kind {
         stream::record::READING => stream::record::reading(state, body),
-        stream::record::CLOSE => close(state, tables, staging, slots, body, text, at),
+        stream::record::CLOSE => close(rt, state, tables, staging, slots, body, text, at),
         _ => line(state, staging, body),
     }
 }
 
 // The events that stand first in the input, one after the other, so that the state is handed on once for many events.
 pub fn events(
+    rt: &HostRuntime,
     state: State,
     input: Input,
     tables: &[u8],
@@ -154,7 +164,7 @@ pub fn events(
         // Handed on before the test: that saves the compiled program a copy of the state.
         after = answer.state;
         if answer.number != causes::CARRIED_OUT {
-            print_refusal(text, at, answer.number);
+            print_refusal(rt, text, at, answer.number);
         }
         from += EVENT_RECORD;
     }

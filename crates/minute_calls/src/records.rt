@@ -21,11 +21,11 @@ fn body_bytes(kind: u8) -> usize
 }
 
 // The record that stands next in the input, its body right behind its kind.
-pub fn next(buffer: &mut [u8], input: Input, text: &[u8], at: &mut usize) -> Next
+pub fn next(rt: &HostRuntime, buffer: &mut [u8], input: Input, text: &[u8], at: &mut usize) -> Next
     requires { Held input buffer.old }
     ensures { FirstOf result (waiting_in input buffer.old) buffer.new }
 {
-    let one = buffered::input::fill(buffer, input, 1, text, at);
+    let one = buffered::input::fill(rt, buffer, input, 1, text, at);
     let start = one.at;
     if one.end == start {
         return Next::End;
@@ -35,5 +35,5 @@ pub fn next(buffer: &mut [u8], input: Input, text: &[u8], at: &mut usize) -> Nex
     if n == 0 {
         return Next::Bad;
     }
-    stream::record::whole(buffer, one, kind, 1, n, text, at)
+    stream::record::whole(rt, buffer, one, kind, 1, n, text, at)
 }

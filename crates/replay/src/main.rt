@@ -31,6 +31,7 @@ fn both(step: Step, gathered: Gathered) -> Done
 
 // What was found is carried out, aboard and on the ground.
 fn step(
+    rt: &HostRuntime,
     state: State,
     gathered: Gathered,
     found: Next,
@@ -55,7 +56,7 @@ fn step(
 {
     match found {
         Next::End => both(stopped(state), gathered),
-        Next::Bad => both(bad(state, text, at), gathered),
+        Next::Bad => both(bad(rt, state, text, at), gathered),
         Next::Record {
             kind,
             start: _,
@@ -65,12 +66,12 @@ fn step(
             let to = rest.at;
             let body = &buffer[from..to];
             if !records::is_right(kind, body, slots.len()) {
-                return both(bad(state, text, at), gathered);
+                return both(bad(rt, state, text, at), gathered);
             }
             let after = calls::carry_out(
-                kind, state, tables, staging, bitmap, slots, echo, body, text, at,
+                rt, kind, state, tables, staging, bitmap, slots, echo, body, text, at,
             );
-            let then = ground_calls::carry_out(kind, gathered, table, body, text, at);
+            let then = ground_calls::carry_out(rt, kind, gathered, table, body, text, at);
             both(going_on(after, rest), then)
         }
     }
@@ -78,6 +79,7 @@ fn step(
 
 // Carries out record after record until the input ends or a record is bad.
 fn run(
+    rt: &HostRuntime,
     tables: &mut [u8],
     staging: &mut [u8],
     bitmap: &mut [u8],
@@ -93,9 +95,9 @@ fn run(
     let mut at: usize = 0;
     let mut turns = MOST_TURNS;
     while 0 < turns {
-        let found = records::next(buffer, input, text, &mut at);
+        let found = records::next(rt, buffer, input, text, &mut at);
         let done = step(
-            state, gathered, found, tables, staging, bitmap, slots, echo, table, buffer, text,
+            rt, state, gathered, found, tables, staging, bitmap, slots, echo, table, buffer, text,
             &mut at,
         );
         let after = done.step;
@@ -104,13 +106,13 @@ fn run(
         gathered = done.gathered;
         turns = left(turns, after.more & (at != OVER));
     }
-    buffered::text::flush(text, &mut at);
+    buffered::text::flush(rt, text, &mut at);
 }
 
-fn main() {
+fn main(rt: HostRuntime) {
     let mut tables = [0u8; tables::TABLE_BYTES];
-    if !buffered::files::read_tables(&mut tables) {
-        buffered::text::print(b"refused 1\n");
+    if !buffered::files::read_tables(&rt, &mut tables) {
+        buffered::text::print(&rt, b"refused 1\n");
         return;
     }
     let mut staging = [0u8; load::staging::STAGING_BYTES];
@@ -121,6 +123,7 @@ fn main() {
     let mut buffer = [0u8; buffered::input::INPUT_BYTES];
     let mut text = [0u8; buffered::text::TEXT_BYTES];
     run(
+        &rt,
         &mut tables,
         &mut staging,
         &mut bitmap,

@@ -17,6 +17,7 @@ use image::layout::IMAGE_BYTES;
 use state::State;
 
 fn event(
+    rt: &HostRuntime,
     state: State,
     tables: &[u8],
     slots: &mut [u32],
@@ -29,20 +30,21 @@ fn event(
     ensures slots { slots.new ≡ (record_done state tables.now slots.old body.now).slots }
 {
     let answer = stream::record::event(state, tables, slots, body);
-    answers::calls::print_event(text, at, answer.number);
+    answers::calls::print_event(rt, text, at, answer.number);
     answer.state
 }
 
-fn reading(state: State, body: &[u8], text: &mut [u8], at: &mut usize) -> State
+fn reading(rt: &HostRuntime, state: State, body: &[u8], text: &mut [u8], at: &mut usize) -> State
     requires { length body.now ≡ 16 }
     ensures { result ≡ (reading_done state (counts_in body.now)).state }
 {
     let answer = stream::record::reading(state, body);
-    answers::calls::print_reading(text, at, answer.number);
+    answers::calls::print_reading(rt, text, at, answer.number);
     answer.state
 }
 
 fn line(
+    rt: &HostRuntime,
     state: State,
     staging: &[u8],
     bitmap: &[u8],
@@ -57,11 +59,12 @@ fn line(
         ≡ (line_done state body.now staging.now bitmap.now echo.old).echo }
 {
     let answer = processor::line::line(state, body, staging, bitmap, echo);
-    answers::calls::print_line(text, at, answer.number, echo, answer.sum);
+    answers::calls::print_line(rt, text, at, answer.number, echo, answer.sum);
     answer.state
 }
 
 fn package(
+    rt: &HostRuntime,
     state: State,
     staging: &mut [u8],
     bitmap: &mut [u8],
@@ -80,12 +83,13 @@ fn package(
         ≡ (package_done state body.now staging.old bitmap.old echo.old).echo }
 {
     let answer = processor::load_package::package(state, body, staging, bitmap, echo);
-    answers::calls::print_package(text, at, answer.number, echo);
+    answers::calls::print_package(rt, text, at, answer.number, echo);
     answer.state
 }
 
 // The packets are printed only where the close has filled them whole.
 fn close(
+    rt: &HostRuntime,
     state: State,
     tables: &mut [u8],
     staging: &[u8],
@@ -109,27 +113,34 @@ fn close(
     let mut packets = [0u8; stream::start::OUT_BYTES];
     let closed = processor::close::close(state, time, tables, staging, slots, &mut packets);
     let ended = closed.summary;
-    answers::close::print_close(text, at, state.frame, closed.number, ended, &packets);
+    answers::close::print_close(rt, text, at, state.frame, closed.number, ended, &packets);
     closed.state
 }
 
 // One packet of the tables, which changes nothing aboard.
-fn listing(state: State, tables: &[u8], body: &[u8], text: &mut [u8], at: &mut usize)
+fn listing(
+    rt: &HostRuntime,
+    state: State,
+    tables: &[u8],
+    body: &[u8],
+    text: &mut [u8],
+    at: &mut usize,
+)
     requires { length body.now ≡ 6 }
 {
     let i = wire::read::u16_at(body, 0);
     let time = wire::read::u32_at(body, 2);
     let mut out = [0u8; packet::layout::PACKET_BYTES];
     let number = processor::listing::listing(state, i, time, tables, &mut out);
-    answers::listing::print_written(text, at, b"listing", number, &out);
+    answers::listing::print_written(rt, text, at, b"listing", number, &out);
 }
 
 // A state in place of the one there is.
-fn hand_in(body: &[u8], text: &mut [u8], at: &mut usize) -> State
+fn hand_in(rt: &HostRuntime, body: &[u8], text: &mut [u8], at: &mut usize) -> State
     requires { length body.now ≡ image_bytes }
     ensures { result ≡ state_of body.now }
 {
-    answers::calls::print_state(text, at);
+    answers::calls::print_state(rt, text, at);
     image::read::decode(body)
 }
 
@@ -142,22 +153,23 @@ fn shown(state: State) -> [u8; IMAGE_BYTES]
     bytes
 }
 
-fn show(state: State, text: &mut [u8], at: &mut usize) {
+fn show(rt: &HostRuntime, state: State, text: &mut [u8], at: &mut usize) {
     let bytes = shown(state);
-    answers::calls::print_shown(text, at, &bytes);
+    answers::calls::print_shown(rt, text, at, &bytes);
 }
 
 // All slots in place of those there are.
-fn hand_in_slots(slots: &mut [u32], body: &[u8], text: &mut [u8], at: &mut usize)
+fn hand_in_slots(rt: &HostRuntime, slots: &mut [u32], body: &[u8], text: &mut [u8], at: &mut usize)
     requires { length body.now ≡ 4 * length slots.old }
     ensures { slots.new ≡ numbers_at body.now 0 (length slots.old) }
 {
     image::read::words_at(body, 0, slots);
-    answers::calls::print_slots(text, at);
+    answers::calls::print_slots(rt, text, at);
 }
 
 // One record, of which those of the ground change nothing aboard.
 pub fn carry_out(
+    rt: &HostRuntime,
     kind: u8,
     state: State,
     tables: &mut [u8],
@@ -177,22 +189,22 @@ pub fn carry_out(
         result tables.new staging.new bitmap.new slots.new echo.new }
 {
     match kind {
-        stream::record::EVENT => event(state, tables, slots, body, text, at),
-        stream::record::READING => reading(state, body, text, at),
-        stream::record::LINE => line(state, staging, bitmap, echo, body, text, at),
-        stream::record::CLOSE => close(state, tables, staging, slots, body, text, at),
-        PACKAGE => package(state, staging, bitmap, echo, body, text, at),
+        stream::record::EVENT => event(rt, state, tables, slots, body, text, at),
+        stream::record::READING => reading(rt, state, body, text, at),
+        stream::record::LINE => line(rt, state, staging, bitmap, echo, body, text, at),
+        stream::record::CLOSE => close(rt, state, tables, staging, slots, body, text, at),
+        PACKAGE => package(rt, state, staging, bitmap, echo, body, text, at),
         LISTING => {
-            listing(state, tables, body, text, at);
+            listing(rt, state, tables, body, text, at);
             state
         }
-        STATE => hand_in(body, text, at),
+        STATE => hand_in(rt, body, text, at),
         SHOW => {
-            show(state, text, at);
+            show(rt, state, text, at);
             state
         }
         SLOTS => {
-            hand_in_slots(slots, body, text, at);
+            hand_in_slots(rt, slots, body, text, at);
             state
         }
         _ => state,

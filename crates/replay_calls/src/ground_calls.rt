@@ -9,6 +9,7 @@ use gatherer::Gathered;
 
 // Bytes given to the gatherer.
 fn gather(
+    rt: &HostRuntime,
     gathered: Gathered,
     table: &mut [u8],
     body: &[u8],
@@ -20,37 +21,44 @@ fn gather(
     let answer = gatherer::gather(gathered, body, table);
     let after = answer.gathered;
     let missing = gatherer::missing(after);
-    answers::listing::print_gather(text, at, answer.number, missing);
+    answers::listing::print_gather(rt, text, at, answer.number, missing);
     after
 }
 
 // What was gathered is printed, and a fresh gatherer starts with a table of zeros.
-fn hand_over(gathered: Gathered, table: &mut [u8], text: &mut [u8], at: &mut usize) -> Gathered
+fn hand_over(
+    rt: &HostRuntime,
+    gathered: Gathered,
+    table: &mut [u8],
+    text: &mut [u8],
+    at: &mut usize,
+) -> Gathered
     ensures { gatherer result table.new ≡ fresh_gatherer (zeros (length table.old)) }
 {
     let missing = gatherer::missing(gathered);
-    answers::listing::print_gathered(text, at, missing, table);
+    answers::listing::print_gathered(rt, text, at, missing, table);
     let n = table.len();
     wire::write::put_zeros(table, 0, n);
     gatherer::none()
 }
 
 // Bytes converted to the second edition.
-fn to_second(body: &[u8], text: &mut [u8], at: &mut usize) {
+fn to_second(rt: &HostRuntime, body: &[u8], text: &mut [u8], at: &mut usize) {
     let mut out = [0u8; packet::layout::PACKET_BYTES];
     let number = converter::to_second(body, &mut out);
-    answers::listing::print_written(text, at, b"second", number, &out);
+    answers::listing::print_written(rt, text, at, b"second", number, &out);
 }
 
 // And to the first.
-fn to_first(body: &[u8], text: &mut [u8], at: &mut usize) {
+fn to_first(rt: &HostRuntime, body: &[u8], text: &mut [u8], at: &mut usize) {
     let mut out = [0u8; packet::layout::PACKET_BYTES];
     let number = converter::to_first(body, &mut out);
-    answers::listing::print_written(text, at, b"first", number, &out);
+    answers::listing::print_written(rt, text, at, b"first", number, &out);
 }
 
 // One record, of which those of the calls aboard, and what is read or converted, change nothing that is gathered.
 pub fn carry_out(
+    rt: &HostRuntime,
     kind: u8,
     gathered: Gathered,
     table: &mut [u8],
@@ -63,17 +71,17 @@ pub fn carry_out(
 {
     match kind {
         PACKET => {
-            answers::packets::print_packet(text, at, body);
+            answers::packets::print_packet(rt, text, at, body);
             gathered
         }
-        GATHER => gather(gathered, table, body, text, at),
-        GATHERED => hand_over(gathered, table, text, at),
+        GATHER => gather(rt, gathered, table, body, text, at),
+        GATHERED => hand_over(rt, gathered, table, text, at),
         TO_SECOND => {
-            to_second(body, text, at);
+            to_second(rt, body, text, at);
             gathered
         }
         TO_FIRST => {
-            to_first(body, text, at);
+            to_first(rt, body, text, at);
             gathered
         }
         _ => gathered,

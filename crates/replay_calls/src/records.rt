@@ -61,40 +61,47 @@ fn body_bytes(kind: u8) -> usize
 const COUNTED: usize = 3;
 
 // A record whose body has its length in front, in two bytes.
-fn counted(buffer: &mut [u8], input: Input, kind: u8, text: &[u8], at: &mut usize) -> Next
+fn counted(
+    rt: &HostRuntime,
+    buffer: &mut [u8],
+    input: Input,
+    kind: u8,
+    text: &[u8],
+    at: &mut usize,
+) -> Next
     requires held { Held input buffer.old }
     requires kind_value { is_counted kind ≡ true }
     requires at_lt_end { (input.at < input.end) × (get_or buffer.old input.at 0 ≡ kind) }
     ensures { FirstOf result (waiting_in input buffer.old) buffer.new }
 {
-    let three = buffered::input::fill(buffer, input, COUNTED, text, at);
+    let three = buffered::input::fill(rt, buffer, input, COUNTED, text, at);
     let start = three.at;
     if three.end - start < COUNTED {
         return Next::Bad;
     }
     let n = wire::read::u16_at(buffer, start + 1);
-    whole(buffer, three, kind, COUNTED, n as usize, text, at)
+    whole(rt, buffer, three, kind, COUNTED, n as usize, text, at)
 }
 
 // The record that stands next in the input.
-pub fn next(buffer: &mut [u8], input: Input, text: &[u8], at: &mut usize) -> Next
+pub fn next(rt: &HostRuntime, buffer: &mut [u8], input: Input, text: &[u8], at: &mut usize) -> Next
     requires { Held input buffer.old }
     ensures { FirstOf result (waiting_in input buffer.old) buffer.new }
 {
-    let one = buffered::input::fill(buffer, input, 1, text, at);
+    let one = buffered::input::fill(rt, buffer, input, 1, text, at);
     let start = one.at;
     if one.end == start {
         return Next::End;
     }
     let kind = buffer[start];
     if is_counted(kind) {
-        return counted(buffer, one, kind, text, at);
+        return counted(rt, buffer, one, kind, text, at);
     }
     let n = body_bytes(kind);
     if (n == 0) & (kind != GATHERED) & (kind != SHOW) {
         return Next::Bad;
     }
-    whole(buffer, one, kind, 1, n, text, at)
+    whole(rt, buffer, one, kind, 1, n, text, at)
 }
 
 // Whether a body can be carried out: the bytes of a state are one, and slots come for all of so many.

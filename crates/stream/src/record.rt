@@ -60,10 +60,10 @@ pub fn stopped(state: State) -> Step
 }
 
 // A bad record is printed, and ends the program.
-pub fn bad(state: State, text: &mut [u8], at: &mut usize) -> Step
+pub fn bad(rt: &HostRuntime, state: State, text: &mut [u8], at: &mut usize) -> Step
     ensures { (result.state ≡ state) × (result.input.at ≤ 0) × (result.input.end ≤ 0) × (result.more ≡ false) }
 {
-    buffered::text::bad_record(text, at);
+    buffered::text::bad_record(rt, text, at);
     stopped(state)
 }
 
@@ -97,6 +97,7 @@ pub fn fixed_bytes(kind: u8) -> usize
 
 // The next record, whose body is the n bytes behind its first `head` ones.
 pub fn whole(
+    rt: &HostRuntime,
     buffer: &mut [u8],
     input: Input,
     kind: u8,
@@ -111,7 +112,7 @@ pub fn whole(
     ensures found_in { FoundIn result (waiting_in input buffer.old) buffer.new }
     ensures of { IsOf kind head n result }
 {
-    let filled = buffered::input::fill(buffer, input, head + n, text, at);
+    let filled = buffered::input::fill(rt, buffer, input, head + n, text, at);
     let start = filled.at;
     let end = filled.end;
     if end - start < head + n {

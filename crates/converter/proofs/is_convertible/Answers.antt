@@ -1,5 +1,4 @@
 -- `is_convertible` is the definition, by whether the first edition is wanted.
-use borrow.Author.Rules.{rules}
 use borrow.Author.Tests.{eq-eqb, ne_eqb}
 use Rattle.converter.specs.Convert.{convertible}
 use Rattle.converter.proofs.is_convertible.Goals as goal

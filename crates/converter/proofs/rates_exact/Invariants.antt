@@ -1,13 +1,7 @@
 -- `rates_exact` has tested, after i turns, the first i rates, each the least count of a valid code and so below the limit.
-use borrow.Author.Rules.{rules}
-use Prim.Native.Nat.{◌≤◌, ◌<◌, ◌-◌}
-use mathlib.Core.Path.{◌≡◌, ap, ◌∙◌}
-use native.Mathlib.Omega.{arith}
-use Rattle.rate_code.specs.Rate.{count_limit}
-use Rattle.rate_code.specs.Editions.{first_mark, least_by, valid_by, exact_by}
-use Rattle.rate_code.proofs.EditionLaws.{by_below}
-use Rattle.wire.proofs.Pieces.{each_start, each_turn, each_end, each_at}
-use Rattle.decode.specs.Read.{mark_of, codes_good}
+use Prim.Native.Nat.{◌≤◌, ◌-◌}
+use mathlib.Core.Path.{◌≡◌}
+use Rattle.rate_code.specs.Editions.{first_mark}
 use Rattle.converter.specs.Convert.{rates_exact}
 use Rattle.converter.proofs.rates_exact.Given as goal
 

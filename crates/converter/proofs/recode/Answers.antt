@@ -1,5 +1,4 @@
 -- `recode` copies the packet, sets its mark and puts codes and sum: the packet in the edition wanted.
-use borrow.Author.Rules.{rules}
 use mathlib.Core.Path.{◌≡◌, ap, ◌∙◌}
 use mathlib.Core.List.{List}
 use native.Mathlib.Omega.{arith}
@@ -11,36 +10,36 @@ use Rattle.packet.specs.Layout.{body_at, packet_bytes, mark_at, sum_at}
 use Rattle.packet.specs.Packet.{summed, codes}
 use Rattle.decode.specs.Read.{rates_of}
 use Rattle.converter.specs.Convert.{recoded}
-use Rattle.converter.proofs.recode.Goals.{After-put_bytes}
 use Rattle.converter.proofs.recode.Goals as goal
 
 -- the copy is the packet
-copied : (p : After-put_bytes) → p.put_bytes.new.part ≡ p.args.packet.now
-copied p = let s = p in p.put_bytes.ensures ∙ put_all s.args.out.now s.args.packet.now (omega (arith, s.requires))
+copied : (part out xs : List ℕ) → part ≡ put out 0 xs → length xs ≡ packet_bytes → length out ≡ packet_bytes → part ≡ xs
+copied part out xs e x o = e ∙ put_all out xs (omega arith)
 
-length_marked : (p : After-put_bytes) → length (set p.put_bytes.new.part mark_at p.args.wanted) ≡ packet_bytes
-length_marked p = length-set p.put_bytes.new.part mark_at p.args.wanted ∙ omega (arith, ap length (copied p), p.requires)
+length_marked : (part out xs : List ℕ) (wanted : ℕ) → part ≡ put out 0 xs → length xs ≡ packet_bytes → length out ≡ packet_bytes
+    → length (set part mark_at wanted) ≡ packet_bytes
+length_marked part out xs wanted e x o = length-set part mark_at wanted ∙ ap length (copied part out xs e x o) ∙ x
 
 pub write_rates-requires : goal.write_rates-requires
-write_rates-requires c = let p = c in
-    let s = p in record { packet_len = s.requires.packet_len; packet_value = s.requires.packet_value; out_len = length_marked (goal.at.write_rates-requires c).After-put_bytes }
+write_rates-requires c =
+    let a = c.args in
+    record {
+      packet_len = c.requires.packet_len;
+      packet_value = c.requires.packet_value;
+      out_len = length_marked _ a.out.now a.packet.now a.wanted c.put_bytes.ensures c.requires.packet_len.0 c.requires.out_len;
+    }
 
 pub write_sum-requires : goal.write_sum-requires
-write_sum-requires c = let w = c in
-    omega (arith, w.write_rates.auto, length_marked (goal.at.write_sum-requires c).After-put_bytes)
-
-pub shape_of-out : goal.shape_of-out
-shape_of-out c = let z = c in
-    let w = z in
-    let p = w in
-    omega (arith, z.write_sum.auto, w.write_rates.auto, length_marked (goal.at.shape_of-out c).After-put_bytes, p.requires)
+write_sum-requires c =
+    let a = c.args in
+    omega (arith, length_marked _ a.out.now a.packet.now a.wanted c.put_bytes.ensures c.requires.packet_len.0 c.requires.out_len)
 
 pub returns : goal.returns
 unfolding recoded
-returns c = let z = c in
-    let w = z in
-    let p = w in
-    let a = p.args in
-    z.write_sum.ensures
-    ∙ ap (λ (xs : List ℕ). summed (take sum_at xs)) (w.write_rates.ensures
-    ∙ ap (λ (xs : List ℕ). put (set xs mark_at a.wanted) body_at (codes a.wanted (rates_of a.n a.packet.now))) (copied (goal.at.returns c).After-put_bytes))
+returns c =
+    let a = c.args in
+    let xs = a.packet.now in
+    c.write_sum.ensures
+    ∙ ap (λ (ys : List ℕ). summed (take sum_at ys)) c.write_rates.ensures
+    ∙ ap (λ (ys : List ℕ). summed (take sum_at (put (set ys mark_at a.wanted) body_at (codes a.wanted (rates_of a.n xs)))))
+    (copied _ a.out.now xs c.put_bytes.ensures c.requires.packet_len.0 c.requires.out_len)

@@ -1,6 +1,5 @@
 -- `missing` has counted, after i turns, those of the first i that have not come.
-use borrow.Author.Rules.{rules}
-use Prim.Native.Nat.{ℕ, ◌≤◌, ◌-◌}
+use Prim.Native.Nat.{ℕ}
 use mathlib.Core.Path.{◌≡◌, refl, ap, ◌∙◌}
 use mathlib.Core.Bool.{false, not}
 use native.Mathlib.Omega.{arith}
@@ -16,5 +15,10 @@ unfolding count_of
 loop-i-init c = (omega arith, omega arith, refl)
 
 pub loop-i-preserved : goal.loop-i-preserved
-loop-i-preserved c = let l = c in
-    (omega arith, omega (arith, c.bit.ensures.1), count_turn _ l.loop-i.i l.loop-i.invariant.2 c.bit.ensures.0)
+loop-i-preserved c = (omega arith, omega arith, count_turn _ c.loop-i.i c.loop-i.invariant.2 c.bit.ensures.0)
+
+pub returns : goal.returns
+unfolding missing_of
+returns c =
+    let e : c.loop-i.i ≡ listing_packets = omega arith in
+    (c.loop-i.invariant.2 ∙ ap (λ (n : ℕ). count_of n (λ k. not (get_or c.args.gathered.came k false))) e, omega arith)
