@@ -1,5 +1,4 @@
 -- `command_list_in` reads each field from its place.
-use borrow.Author.Rules.{rules}
 use Rattle.image.specs.Image.{command_list_in}
 use Rattle.image.proofs.read.command_list_in.Goals as goal
 

@@ -1,5 +1,4 @@
 -- `command_of` is a load for its kind, and else a setting's.
-use borrow.Author.Rules.{rules}
 use borrow.Author.Tests.{eq-eqb, ne_eqb}
 use Rattle.image.specs.Image.{command_of}
 use Rattle.image.proofs.read.command_of.Goals as goal

@@ -1,9 +1,7 @@
 -- `commands_at` has filled, after i turns, the first i commands.
-use borrow.Author.Rules.{rules}
-use Prim.Native.Nat.{◌≤◌, ◌-◌}
-use mathlib.Core.Path.{◌≡◌, refl}
+use mathlib.Core.Path.{refl}
 use native.Mathlib.Omega.{arith}
-use lib.ListN.{length, take, length-set}
+use lib.ListN.{length-set}
 use Rattle.image.specs.Image.{commands_at}
 use Rattle.image.proofs.ListLaws.{waitings_none, waitings_turn, waitings_end}
 use Rattle.image.proofs.read.commands_at.Goals as goal

@@ -1,11 +1,8 @@
 -- `commands_at` has filled, after i turns, the first i commands.
-use borrow.Author.Rules.{rules}
 use Prim.Native.Nat.{◌≤◌, ◌-◌}
-use mathlib.Core.Path.{◌≡◌, refl}
-use native.Mathlib.Omega.{arith}
-use lib.ListN.{length, take, length-set}
+use mathlib.Core.Path.{◌≡◌}
+use lib.ListN.{length, take}
 use Rattle.image.specs.Image.{commands_at}
-use Rattle.image.proofs.ListLaws.{waitings_none, waitings_turn, waitings_end}
 use Rattle.image.proofs.read.commands_at.Given as goal
 
 abbrev pub invariant-loop-i : goal.invariant-loop-i

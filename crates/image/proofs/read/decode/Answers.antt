@@ -1,5 +1,4 @@
 -- `decode` reads each part from its place.
-use borrow.Author.Rules.{rules}
 use Rattle.image.specs.Image.{state_of}
 use Rattle.image.proofs.read.decode.Goals as goal
 

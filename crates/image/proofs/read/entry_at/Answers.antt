@@ -1,5 +1,4 @@
 -- `entry_at` reads kind, value and y from their places.
-use borrow.Author.Rules.{rules}
 use Rattle.image.proofs.read.entry_at.Goals as goal
 
 pub returns : goal.returns

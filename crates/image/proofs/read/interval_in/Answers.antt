@@ -1,5 +1,4 @@
 -- `interval_in` reads each field from its place.
-use borrow.Author.Rules.{rules}
 use Rattle.image.specs.Image.{interval_in}
 use Rattle.image.proofs.read.interval_in.Goals as goal
 

@@ -1,5 +1,4 @@
 -- `setting_of` goes through the kinds in the definition's order.
-use borrow.Author.Rules.{rules}
 use borrow.Author.Tests.{eq-eqb, ne_eqb}
 use Rattle.image.specs.Image.{setting_of}
 use Rattle.image.proofs.read.setting_of.Goals as goal

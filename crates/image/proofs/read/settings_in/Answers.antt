@@ -1,5 +1,4 @@
 -- `settings_in` reads each field from its place, and each flag is a bit of one byte.
-use borrow.Author.Rules.{rules}
 use Rattle.image.specs.Image.{settings_in}
 use Rattle.image.proofs.read.settings_in.Goals as goal
 

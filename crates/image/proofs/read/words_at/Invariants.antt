@@ -1,10 +1,7 @@
 -- `words_at` has filled, after i turns, the first i words.
-use borrow.Author.Rules.{rules}
-use Rattle.wire.proofs.Pieces.{table_none, table_turn, table_end}
 use Prim.Native.Nat.{◌≤◌, ◌-◌}
-use mathlib.Core.Path.{◌≡◌, refl}
-use native.Mathlib.Omega.{arith}
-use lib.ListN.{length, take, length-set}
+use mathlib.Core.Path.{◌≡◌}
+use lib.ListN.{length, take}
 use Rattle.image.specs.Image.{numbers_at}
 use Rattle.image.proofs.read.words_at.Given as goal
 

@@ -3,7 +3,6 @@ use mathlib.Core.Path.{sym, ap, ◌∙◌}
 use Rattle.wire.specs.Bytes.{put}
 use Rattle.command.specs.declared.command.Command.{Command}
 use Rattle.image.specs.Image.{six, command_bytes}
-use borrow.Author.Rules.{rules}
 use Rattle.image.proofs.write.put_command.Goals as goal
 
 pub returns-in-Set : goal.returns-in-Set

@@ -1,5 +1,4 @@
 -- `put_command_list` puts both numbers and the commands in a row.
-use borrow.Author.Rules.{rules}
 use mathlib.Core.Path.{refl, ◌∙◌}
 use mathlib.Core.List.{◌++◌}
 use native.Mathlib.Omega.{arith}

@@ -1,16 +1,9 @@
 -- After i commands `put_commands` has put the six bytes of each of the first i, in order.
-use borrow.Author.Rules.{rules}
-use Prim.Native.Nat.{ℕ, ◌≤◌, ◌-◌, ◌+◌, ◌*◌}
-use mathlib.Core.Path.{◌≡◌, ap, refl, sym, ◌∙◌}
-use mathlib.Core.List.{List}
-use native.Mathlib.Omega.{arith}
-use lib.ListN.{length, take, get_or}
-use lib.Seq.{take_all}
+use Prim.Native.Nat.{◌≤◌, ◌-◌}
+use mathlib.Core.Path.{◌≡◌}
+use lib.ListN.{length, take}
 use Rattle.wire.specs.Bytes.{put}
-use Rattle.wire.proofs.Bytes.{put_put, put_nil}
-use Rattle.command_list.specs.CommandList.{filler}
-use Rattle.image.specs.Image.{command_bytes, commands_bytes}
-use Rattle.image.proofs.ListLaws.{length_command, commands_take, length_commands_take}
+use Rattle.image.specs.Image.{commands_bytes}
 use Rattle.image.proofs.write.put_commands.Given as goal
 
 abbrev pub invariant-loop-i : goal.invariant-loop-i

@@ -1,5 +1,4 @@
 -- `put_readings` puts the readings and their totals in a row.
-use borrow.Author.Rules.{rules}
 use mathlib.Core.Path.{refl}
 use native.Mathlib.Omega.{arith}
 use Rattle.wire.proofs.Bytes.{then}

@@ -1,5 +1,4 @@
 -- `put_settings` puts LIMHI, the flags and hvstep in a row.
-use borrow.Author.Rules.{rules}
 use Prim.Native.Nat.{ℕ}
 use mathlib.Core.Path.{refl, ap, ◌∙◌}
 use mathlib.Core.List.{◌++◌}

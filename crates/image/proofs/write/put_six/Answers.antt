@@ -1,5 +1,4 @@
 -- `put_six` puts a byte, a word and a byte in a row.
-use borrow.Author.Rules.{rules}
 use mathlib.Core.Path.{refl}
 use native.Mathlib.Omega.{arith}
 use Rattle.wire.proofs.Bytes.{then}

@@ -1,5 +1,4 @@
 -- `put_two` puts two words in a row.
-use borrow.Author.Rules.{rules}
 use mathlib.Core.Path.{refl}
 use native.Mathlib.Omega.{arith}
 use Rattle.wire.proofs.Bytes.{then}
