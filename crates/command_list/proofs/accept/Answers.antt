@@ -8,5 +8,4 @@ pub returns-in-Nothing : goal.returns-in-Nothing
 returns-in-Nothing c = c.count.ensures ∙ sym (ap (with_accepted c.args.o) c.in-Nothing.is)
 
 pub returns-in-Waits : goal.returns-in-Waits
-returns-in-Waits c = let l = c in
-    c.push.ensures ∙ sym (ap (with_accepted l.args.o) l.in-Waits.is)
+returns-in-Waits c = c.push.ensures ∙ sym (ap (with_accepted c.args.o) c.in-Waits.is)

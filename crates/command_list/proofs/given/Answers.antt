@@ -15,23 +15,21 @@ pub loop-i-init : goal.loop-i-init
 loop-i-init c = (omega arith, refl)
 
 pub loop-i-preserved : goal.loop-i-preserved
-loop-i-preserved c = let l = c in
-    let u = l in
-    let n = u.in_use-n.result in
-    let w = u.args.o.waiting in
-    let p = given_at u.args.ranges in
-    let i = l.loop-i.i in
-    let k : length (take n w) ≡ n = u.in_use-n.ensures.1 in
+loop-i-preserved c =
+    let n = c.in_use-n.result in
+    let w = c.args.o.waiting in
+    let p = given_at c.args.ranges in
+    let i = c.loop-i.i in
+    let k : length (take n w) ≡ n = c.in_use-n.ensures.1 in
     let e = c.command_ok-ok.ensures ∙ sym (ap p (get_or-take n w i filler (omega arith))) in (
       omega arith,
-      ap (λ b. (l.loop-i.ok && b) && all p (drop (i + 1) (take n w))) e
-          ∙ scan_step p (take n w) filler l.loop-i.ok i (omega arith) l.loop-i.invariant.1,
+      ap (λ b. (c.loop-i.ok && b) && all p (drop (i + 1) (take n w))) e
+          ∙ scan_step p (take n w) filler c.loop-i.ok i (omega arith) c.loop-i.invariant.1,
     )
 
 pub returns : goal.returns
-returns c = let l = c in
-    let u = l in
-    let w = take u.in_use-n.result u.args.o.waiting in
-    let p = given_at u.args.ranges in
-    let k : length w ≡ u.in_use-n.result = u.in_use-n.ensures.1 in
-    scan_end p w filler l.loop-i.ok l.loop-i.i (omega arith) l.loop-i.invariant.1 ∙ ap (all p) u.in_use-n.ensures.2
+returns c =
+    let w = take c.in_use-n.result c.args.o.waiting in
+    let p = given_at c.args.ranges in
+    let k : length w ≡ c.in_use-n.result = c.in_use-n.ensures.1 in
+    scan_end p w filler c.loop-i.ok c.loop-i.i (omega arith) c.loop-i.invariant.1 ∙ ap (all p) c.in_use-n.ensures.2

@@ -18,13 +18,12 @@ loop-i-init c = (omega arith, omega arith, omega arith)
 
 pub returns : goal.returns
 unfolding loads_in
-returns c = let l = c in
-    let u = l in
-    let w = take u.in_use-n.result u.args.o.waiting in
-    let k : length w ≡ u.in_use-n.result = u.in_use-n.ensures.1 in
-    let z = count_end (λ x. is_load x.command) w filler l.loop-i.i (omega arith) in
-    let s : l.loop-i.count ≡ loads_in w = omega arith in
-    s ∙ ap loads_in u.in_use-n.ensures.2
+returns c =
+    let w = take c.in_use-n.result c.args.o.waiting in
+    let k : length w ≡ c.in_use-n.result = c.in_use-n.ensures.1 in
+    let z = count_end (λ x. is_load x.command) w filler c.loop-i.i (omega arith) in
+    let s : c.loop-i.count ≡ loads_in w = omega arith in
+    s ∙ ap loads_in c.in_use-n.ensures.2
 
 pub loop-i-preserved : goal.loop-i-preserved
 unfolding loads_in
@@ -37,8 +36,8 @@ loop-i-preserved c =
     let st = count_step (λ x. is_load x.command) (take n w) filler i (omega arith) in
     let cnt : c.if-is_load.count ≡ c.loop-i.count + cond c.is_load.result 1 0 =
     elim c.if-is_load.branch [
-      then-is_load q ↦ q.count-is ∙ rw q.if-is_load.true
-    | else-is_load q ↦ q.count-is ∙ rw q.if-is_load.false (omega arith)
+      | then-is_load q ↦ q.count-is ∙ rw q.if-is_load.true
+      | else-is_load q ↦ q.count-is ∙ rw q.if-is_load.false (omega arith)
     ] in
     let t : cond c.is_load.result 1 0 + loads_in (drop (i + 1) (take n w)) ≡ loads_in (drop i (take n w)) =
     ap (λ b. cond b 1 0 + loads_in (drop (i + 1) (take n w))) e ∙ sym st in (

@@ -7,11 +7,9 @@ use borrow.Author.Rules.{rules}
 use Rattle.command_list.proofs.run_command.Goals as goal
 
 pub run_load-requires : goal.run_load-requires
-run_load-requires c = let k = c in
-    let s = k in record { tables_len = s.requires.tables_len; reach_value = sym (ap (λ (x : Command). command_ok x s.args.ranges) k.in-Load.is) ∙ s.requires.ranges_value }
+run_load-requires c = record { tables_len = c.requires.tables_len; reach_value = sym (ap (λ (x : Command). command_ok x c.args.ranges) c.in-Load.is) ∙ c.requires.ranges_value }
 
 pub returns-in-Load : goal.returns-in-Load
-returns-in-Load c = let r = c in
-    let k = r in
-    let s = k.args in
-    r.run_load.ensures ∙ sym (ap (tables_after s.tables.now s.staging.now s.ranges.reach) k.in-Load.is)
+returns-in-Load c =
+    let s = c.args in
+    c.run_load.ensures ∙ sym (ap (tables_after s.tables.now s.staging.now s.ranges.reach) c.in-Load.is)

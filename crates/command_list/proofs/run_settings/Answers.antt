@@ -15,22 +15,20 @@ pub loop-i-init : goal.loop-i-init
 loop-i-init c = (omega arith, refl)
 
 pub loop-i-preserved : goal.loop-i-preserved
-loop-i-preserved c = let l = c in
-    let u = l in
-    let n = u.in_use-n.result in
-    let w = u.args.o.waiting in
-    let i = l.loop-i.i in
-    let k : length (take n w) ≡ n = u.in_use-n.ensures.1 in
+loop-i-preserved c =
+    let n = c.in_use-n.result in
+    let w = c.args.o.waiting in
+    let i = c.loop-i.i in
+    let k : length (take n w) ≡ n = c.in_use-n.ensures.1 in
     let x = get_or-take n w i filler (omega arith) in
-    let e = c.applied_to_copy-t.ensures ∙ sym (ap (λ x. settings_after l.loop-i.t x.command) x) in (
+    let e = c.applied_to_copy-t.ensures ∙ sym (ap (λ x. settings_after c.loop-i.t x.command) x) in (
       omega arith,
-      ap (λ x. settings_after_all x (drop (i + 1) (take n w))) e ∙ settings_step l.loop-i.t (take n w) i (omega arith) ∙ l.loop-i.invariant.1,
+      ap (λ x. settings_after_all x (drop (i + 1) (take n w))) e ∙ settings_step c.loop-i.t (take n w) i (omega arith) ∙ c.loop-i.invariant.1,
     )
 
 pub returns : goal.returns
-returns c = let l = c in
-    let u = l in
-    let w = take u.in_use-n.result u.args.o.waiting in
-    let k : length w ≡ u.in_use-n.result = u.in_use-n.ensures.1 in
-    sym (settings_end l.loop-i.t w l.loop-i.i (omega arith)) ∙ l.loop-i.invariant.1
-    ∙ ap (settings_after_all u.args.settings) u.in_use-n.ensures.2
+returns c =
+    let w = take c.in_use-n.result c.args.o.waiting in
+    let k : length w ≡ c.in_use-n.result = c.in_use-n.ensures.1 in
+    sym (settings_end c.loop-i.t w c.loop-i.i (omega arith)) ∙ c.loop-i.invariant.1
+    ∙ ap (settings_after_all c.args.settings) c.in_use-n.ensures.2

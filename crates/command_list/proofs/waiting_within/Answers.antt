@@ -10,12 +10,8 @@ returns-then-o-gt-MOST_COMMANDS c = simp (lt-leb _ _ c.if-o-gt-MOST_COMMANDS.tru
 
 pub returns-then-o : goal.returns-then-o
 unfolding command_list_within
-returns-then-o c = let a = c in
-    simp (le-leb _ _ a.if-o-gt-MOST_COMMANDS.false, lt-leb _ _ c.if-o.true)
+returns-then-o c = simp (le-leb _ _ c.if-o-gt-MOST_COMMANDS.false, lt-leb _ _ c.if-o.true)
 
 pub returns : goal.returns
 unfolding command_list_within
-returns c = let g = c in
-    let w = g in
-    let a = w in
-    simp (le-leb _ _ a.if-o-gt-MOST_COMMANDS.false, le-leb _ _ w.if-o.false, g.given.ensures, c.loads.ensures)
+returns c = simp (le-leb _ _ c.if-o-gt-MOST_COMMANDS.false, le-leb _ _ c.if-o.false, c.given.ensures, c.loads.ensures)

@@ -10,7 +10,8 @@ use Rattle.command_list.proofs.within.Goals as goal
 
 pub returns-then-o : goal.returns-then-o
 unfolding command_list_within loads_in keep
-returns-then-o c = let o = c.args.o in
+returns-then-o c =
+    let o = c.args.o in
     let t = c.if-o.true in
     let none = eqb-true o.waiters 0 (and_right (leb o.accepted most_commands) _ t) in
     simp (and_left (leb o.accepted most_commands) _ t, none, le-leb 0 o.accepted (omega arith))

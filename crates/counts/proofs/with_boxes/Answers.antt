@@ -7,15 +7,15 @@ use borrow.Author.Rules.{rules}
 use Rattle.counts.proofs.with_boxes.Goals as goal
 
 pub overflow_add-d : goal.overflow_add-d
-overflow_add-d c = let s = c in omega (arith, s.requires.each_below (s.args.x - 1))
+overflow_add-d c = omega (arith, c.requires.each_below (c.args.x - 1))
 
 pub overflow_add-d-2 : goal.overflow_add-d-2
-overflow_add-d-2 c = let s = c in
-    let a = s.args in
-    omega (arith, each_bump 1000000 a.c.boxes (a.x - 1) s.requires.each_below (a.y - 1))
+overflow_add-d-2 c =
+    let a = c.args in
+    omega (arith, each_bump 1000000 a.c.boxes (a.x - 1) c.requires.each_below (a.y - 1))
 
 pub overflow_add-d-3 : goal.overflow_add-d-3
-overflow_add-d-3 c = let s = c in
-    let a = s.args in
-    let b = each_bump 1000000 a.c.boxes (a.x - 1) s.requires.each_below in
+overflow_add-d-3 c =
+    let a = c.args in
+    let b = each_bump 1000000 a.c.boxes (a.x - 1) c.requires.each_below in
     omega (arith, each_bump 1000001 (bump a.c.boxes (a.x - 1)) (a.y - 1) b (a.z - 1))

@@ -10,9 +10,8 @@ use borrow.Author.Rules.{rules}
 use Rattle.echo.proofs.finish.Goals as goal
 
 pub returns : goal.returns
-returns c = let c2 = c in
-    let c1 = c2 in
-    let a = c1.args in
+returns c =
+    let a = c.args in
     let k : 128 - (a.at + 7) ≡ 121 - a.at = omega arith in
-    then a.echo.now a.at ending _ _ c1.put_bytes.ensures c2.put_zeros.ensures refl (omega arith)
+    then a.echo.now a.at ending _ _ c.put_bytes.ensures c.put_zeros.ensures refl (omega arith)
     ∙ ap (λ (n : ℕ). put a.echo.now a.at (ending ++ zeros n)) k

@@ -6,12 +6,8 @@ use borrow.Author.Rules.{rules}
 use Rattle.echo.proofs.put_numbers.Goals as goal
 
 pub returns : goal.returns
-returns c = let c4 = c in
-    let c3 = c4 in
-    let c2 = c3 in
-    let c1 = c2 in
-    let s = c1 in
-    let h = s.requires in
-    then _ _ _ _ _ (then _ _ _ _ _ (then _ _ _ _ _ c1.put_bytes.ensures c2.put_hex8.ensures refl (omega arith))
-    c3.put_bytes-2.ensures refl (omega arith))
-    c4.put_hex8-2.ensures refl (omega arith)
+returns c =
+    let h = c.requires in
+    then _ _ _ _ _ (then _ _ _ _ _ (then _ _ _ _ _ c.put_bytes.ensures c.put_hex8.ensures refl (omega arith))
+    c.put_bytes-2.ensures refl (omega arith))
+    c.put_hex8-2.ensures refl (omega arith)

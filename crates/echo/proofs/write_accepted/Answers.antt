@@ -13,18 +13,13 @@ use Rattle.echo.proofs.write_accepted.Goals as goal
 
 pub returns : goal.returns
 unfolding accepted_echo
-returns c = let c5 = c in
-    let c4 = c5 in
-    let c3 = c4 in
-    let c2 = c3 in
-    let c1 = c2 in
-    let s = c1 in
-    let xs = s.args.echo.now in
-    let line = s.args.line.now in
-    let front : List ℕ = hex2 (s.args.frame % 256) ++ hex2 s.args.sequence ++ text " " in
-    echo_ends xs (front ++ line) (5 + length line) s.requires.0 (length-append front line) (omega arith)
+returns c =
+    let xs = c.args.echo.now in
+    let line = c.args.line.now in
+    let front : List ℕ = hex2 (c.args.frame % 256) ++ hex2 c.args.sequence ++ text " " in
+    echo_ends xs (front ++ line) (5 + length line) c.requires.0 (length-append front line) (omega arith)
     (then xs 0 front line 5
-    (then xs 0 _ _ 4 (then xs 0 _ _ 2 c1.put_hex2.ensures c2.put_hex2-2.ensures refl (omega arith))
-    c3.put_u8.ensures refl (omega arith))
-    c4.put_bytes.ensures refl (omega arith))
-    c5.finish.ensures
+    (then xs 0 _ _ 4 (then xs 0 _ _ 2 c.put_hex2.ensures c.put_hex2-2.ensures refl (omega arith))
+    c.put_u8.ensures refl (omega arith))
+    c.put_bytes.ensures refl (omega arith))
+    c.finish.ensures

@@ -12,22 +12,16 @@ use Rattle.echo.proofs.write_package_error.Goals as goal
 
 pub returns : goal.returns
 unfolding package_error_echo
-returns c = let c6 = c in
-    let c5 = c6 in
-    let c4 = c5 in
-    let c3 = c4 in
-    let c2 = c3 in
-    let c1 = c2 in
-    let s = c1 in
-    let xs = s.args.echo.now in
-    let a = s.args in
+returns c =
+    let xs = c.args.echo.now in
+    let a = c.args in
     let p : List ℕ = numbers a.address a.placed in
     let q : List ℕ = p ++ text " ckserr " ++ hex8 a.received ++ text " " in
-    echo_ends xs (q ++ hex8 a.computed) 53 s.requires refl (omega arith)
+    echo_ends xs (q ++ hex8 a.computed) 53 c.requires refl (omega arith)
     (then xs 0 q _ 45
     (then xs 0 _ _ 44
-    (then xs 0 _ _ 36 (then xs 0 p (text " ckserr ") 28 c1.put_numbers.ensures c2.put_bytes.ensures refl (omega arith))
-    c3.put_hex8.ensures refl (omega arith))
-    c4.put_u8.ensures refl (omega arith))
-    c5.put_hex8-2.ensures refl (omega arith))
-    c6.finish.ensures
+    (then xs 0 _ _ 36 (then xs 0 p (text " ckserr ") 28 c.put_numbers.ensures c.put_bytes.ensures refl (omega arith))
+    c.put_hex8.ensures refl (omega arith))
+    c.put_u8.ensures refl (omega arith))
+    c.put_hex8-2.ensures refl (omega arith))
+    c.finish.ensures

@@ -12,12 +12,9 @@ use Rattle.echo.proofs.write_package_ok.Goals as goal
 
 pub returns : goal.returns
 unfolding package_ok_echo
-returns c = let c3 = c in
-    let c2 = c3 in
-    let c1 = c2 in
-    let s = c1 in
-    let xs = s.args.echo.now in
-    let p : List ℕ = numbers s.args.address s.args.placed in
-    echo_ends xs (p ++ text " OK") 31 s.requires refl (omega arith)
-    (then xs 0 p (text " OK") 28 c1.put_numbers.ensures c2.put_bytes.ensures refl (omega arith))
-    c3.finish.ensures
+returns c =
+    let xs = c.args.echo.now in
+    let p : List ℕ = numbers c.args.address c.args.placed in
+    echo_ends xs (p ++ text " OK") 31 c.requires refl (omega arith)
+    (then xs 0 p (text " OK") 28 c.put_numbers.ensures c.put_bytes.ensures refl (omega arith))
+    c.finish.ensures

@@ -8,7 +8,4 @@ use Rattle.echo.proofs.write_prompt.Goals as goal
 
 pub returns : goal.returns
 unfolding prompt_echo
-returns c = let c2 = c in
-    let c1 = c2 in
-    let s = c1 in
-    echo_is s.args.echo.now prompt 5 s.requires refl (omega arith) c1.put_bytes.ensures c2.put_zeros.ensures
+returns c = echo_is c.args.echo.now prompt 5 c.requires refl (omega arith) c.put_bytes.ensures c.put_zeros.ensures

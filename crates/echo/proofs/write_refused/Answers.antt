@@ -12,12 +12,9 @@ use Rattle.echo.proofs.write_refused.Goals as goal
 
 pub returns : goal.returns
 unfolding refused_echo
-returns c = let c3 = c in
-    let c2 = c3 in
-    let c1 = c2 in
-    let s = c1 in
-    let xs = s.args.echo.now in
-    let line = s.args.line.now in
-    echo_ends xs (line ++ text "?") (length line + 1) s.requires.0 (length-append line (text "?")) (omega arith)
-    (then xs 0 line (text "?") (length line) c1.put_bytes.ensures c2.put_u8.ensures (omega arith) (omega arith))
-    c3.finish.ensures
+returns c =
+    let xs = c.args.echo.now in
+    let line = c.args.line.now in
+    echo_ends xs (line ++ text "?") (length line + 1) c.requires.0 (length-append line (text "?")) (omega arith)
+    (then xs 0 line (text "?") (length line) c.put_bytes.ensures c.put_u8.ensures (omega arith) (omega arith))
+    c.finish.ensures

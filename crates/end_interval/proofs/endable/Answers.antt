@@ -3,6 +3,4 @@ use borrow.Author.Rules.{rules}
 use Rattle.end_interval.proofs.endable.Goals as goal
 
 pub returns : goal.returns
-returns c = let g = c in
-    let l = g in
-    simp (g.all_good-good.ensures, l.within_limits-limits.ensures, l.numbers_of-numbers.ensures)
+returns c = simp (c.all_good-good.ensures, c.within_limits-limits.ensures, c.numbers_of-numbers.ensures)

@@ -6,6 +6,4 @@ use Rattle.end_interval.proofs.ended_state.Goals as goal
 
 pub returns : goal.returns
 unfolding state_ended fresh_state
-returns c = let f = c in
-    let a = f in
-    simp (c.next_frame.ensures, f.fresh-t.ensures, a.run_addresses-staging.ensures, a.run_settings-settings.ensures)
+returns c = simp (c.next_frame.ensures, c.fresh-t.ensures, c.run_addresses-staging.ensures, c.run_settings-settings.ensures)

@@ -16,9 +16,7 @@ application-requires c = accepted_length _ (is_zero (goal.at.application-require
 
 pub returns-then-number-eq-CARRIED_OUT : goal.returns-then-number-eq-CARRIED_OUT
 unfolding samples_in
-returns-then-number-eq-CARRIED_OUT c = let k = c in
-    let t = k in
-    rw (eq-eqb _ _ (is_zero (goal.at.returns-then-number-eq-CARRIED_OUT c).Then-number-eq-CARRIED_OUT)) (c.is_sample.ensures ∙ ap is_sample (k.kind_of.ensures ∙ ap kind_of k.application.ensures))
+returns-then-number-eq-CARRIED_OUT c = rw (eq-eqb _ _ (is_zero (goal.at.returns-then-number-eq-CARRIED_OUT c).Then-number-eq-CARRIED_OUT)) (c.is_sample.ensures ∙ ap is_sample (c.kind_of.ensures ∙ ap kind_of c.application.ensures))
 
 pub returns-else-number-eq-CARRIED_OUT : goal.returns-else-number-eq-CARRIED_OUT
 unfolding samples_in

@@ -47,7 +47,7 @@ loop-i-preserved c =
     )
 
 pub returns : goal.returns
-returns c = let l = c in
-    let a = l.args in
-    let k : l.loop-i.i ≡ a.s.many = omega arith in
-    l.loop-i.invariant.1.0 ∙ ap (λ (n : ℕ). put a.out.now packet_bytes (samples_of a.frame a.time a.slots.now a.s.first n)) k
+returns c =
+    let a = c.args in
+    let k : c.loop-i.i ≡ a.s.many = omega arith in
+    c.loop-i.invariant.1.0 ∙ ap (λ (n : ℕ). put a.out.now packet_bytes (samples_of a.frame a.time a.slots.now a.s.first n)) k

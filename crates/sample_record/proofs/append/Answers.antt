@@ -7,5 +7,6 @@ use borrow.Author.Rules.{rules}
 use Rattle.sample_record.proofs.append.Goals as goal
 
 pub returns : goal.returns
-returns c = let a = c.args in
+returns c =
+    let a = c.args in
     ap (λ (n : ℕ). bit_or n a.field) (mod-eq_of_lt c.requires.1) ∙ or_shifted a.x a.bits a.field c.requires.2

@@ -10,5 +10,6 @@ pub overflow_sub-result : goal.overflow_sub-result
 overflow_sub-result c = rw (mask c.args.bits c.requires.1) (pow_pos c.args.bits)
 
 pub returns : goal.returns
-returns c = let a = c.args in
+returns c =
+    let a = c.args in
     rw (mask a.bits c.requires.1) (and_mask (a.x / 2 ^ a.shift) a.bits)

@@ -5,16 +5,13 @@ use Rattle.sample_record.proofs.unpack.Goals as goal
 
 pub returns : goal.returns
 unfolding sample_of
-returns c = let f6 = c in
-    let f4 = f6 in
-    let f2 = f4 in
-    simp (
-      c.field-8.ensures,
-      c.field-7.ensures,
-      f6.field-6.ensures,
-      f6.field-5.ensures,
-      f4.field-4.ensures,
-      f4.field-3.ensures,
-      f2.field-2.ensures,
-      f2.field.ensures,
-    )
+returns c = simp (
+  c.field-8.ensures,
+  c.field-7.ensures,
+  c.field-6.ensures,
+  c.field-5.ensures,
+  c.field-4.ensures,
+  c.field-3.ensures,
+  c.field-2.ensures,
+  c.field.ensures,
+)

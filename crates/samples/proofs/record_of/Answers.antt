@@ -7,16 +7,12 @@ use borrow.Author.Rules.{rules}
 use Rattle.samples.proofs.record_of.Goals as goal
 
 pub pack-requires : goal.pack-requires
-pack-requires c = let g = c in
-    let s = g in
-    let r = in_range_lem s.args.e s.requires.e_value in
-    let n = channel_fits s.args.e s.requires.e_value in
-    let b = box_fits s.args.o s.requires.outcome_names in
-    (omega arith, omega (arith, g.channel.ensures), omega (arith, c.box_of.ensures))
+pack-requires c =
+    let r = in_range_lem c.args.e c.requires.e_value in
+    let n = channel_fits c.args.e c.requires.e_value in
+    let b = box_fits c.args.o c.requires.outcome_names in
+    (omega arith, omega (arith, c.channel.ensures), omega (arith, c.box_of.ensures))
 
 pub returns : goal.returns
 unfolding event_record
-returns c = let p = c in
-    let b = p in
-    let g = b in
-    simp (c.pack.ensures, p.priority_of.ensures, b.box_of.ensures, g.gain.ensures, g.channel.ensures)
+returns c = simp (c.pack.ensures, c.priority_of.ensures, c.box_of.ensures, c.gain.ensures, c.channel.ensures)

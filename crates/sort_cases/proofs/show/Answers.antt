@@ -4,5 +4,4 @@ use borrow.Author.Rules.{rules}
 use Rattle.sort_cases.proofs.show.Goals as goal
 
 pub show_sorted-requires : goal.show_sorted-requires
-show_sorted-requires c = let r = c in
-    let w = r in record { tables_len = w.requires; e_value = sym r.in_range.ensures ∙ c.if-in_range.true }
+show_sorted-requires c = record { tables_len = c.requires; e_value = sym c.in_range.ensures ∙ c.if-in_range.true }

@@ -5,6 +5,4 @@ use Rattle.state.proofs.fresh.Goals as goal
 
 pub returns : goal.returns
 unfolding fresh_state
-returns c = let o = c in
-    let s = o in
-    simp (c.fresh_addresses-staging.ensures, o.fresh-commands.ensures, s.fresh-settings.ensures, s.fresh-interval.ensures)
+returns c = simp (c.fresh_addresses-staging.ensures, c.fresh-commands.ensures, c.fresh-settings.ensures, c.fresh-interval.ensures)

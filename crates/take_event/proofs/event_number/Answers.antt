@@ -10,19 +10,16 @@ use Rattle.take_event.proofs.event_number.Goals as goal
 
 pub returns-then-not-limits-lent : goal.returns-then-not-limits-lent
 unfolding event_number
-returns-then-not-limits-lent c = let w = c in
-    let n = w in
-    let a = n.args in
-    let e : (w.limits_hold-limits.result && (eqb a.tables table_bytes && eqb a.slots n.numbers_of-numbers.result.slots)) ≡ false =
+returns-then-not-limits-lent c =
+    let a = c.args in
+    let e : (c.limits_hold-limits.result && (eqb a.tables table_bytes && eqb a.slots c.numbers_of-numbers.result.slots)) ≡ false =
     c.if-not-limits-lent.true in
-    simp (sym w.limits_hold-limits.ensures, sym n.numbers_of-numbers.ensures, e)
+    simp (sym c.limits_hold-limits.ensures, sym c.numbers_of-numbers.ensures, e)
 
 pub returns : goal.returns
 unfolding event_number
-returns c = let r = c in
-    let w = r in
-    let n = w in
-    let a = n.args in
-    let e : (w.limits_hold-limits.result && (eqb a.tables table_bytes && eqb a.slots n.numbers_of-numbers.result.slots)) ≡ true =
-    r.if-not-limits-lent.false in
-    simp (sym w.limits_hold-limits.ensures, sym n.numbers_of-numbers.ensures, e, c.unless.ensures, c.unless-full.ensures, r.in_range-range.ensures)
+returns c =
+    let a = c.args in
+    let e : (c.limits_hold-limits.result && (eqb a.tables table_bytes && eqb a.slots c.numbers_of-numbers.result.slots)) ≡ true =
+    c.if-not-limits-lent.false in
+    simp (sym c.limits_hold-limits.ensures, sym c.numbers_of-numbers.ensures, e, c.unless.ensures, c.unless-full.ensures, c.in_range-range.ensures)

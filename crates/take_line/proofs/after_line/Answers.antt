@@ -10,10 +10,10 @@ use borrow.Author.Rules.{rules}
 use Rattle.take_line.proofs.after_line.Goals as goal
 
 pub commands_after-commands-requires : goal.commands_after-commands-requires
-commands_after-commands-requires c = let s = c in
-    let o = s.args.s.commands in (
-      (commands_are o _ (state_limits s.args.s s.requires.s_value).commands).waiters_most,
-      ap (λ (t : Traits). not (t.command && commands_full o)) c.traits_of.ensures ∙ s.requires.commands_value,
+commands_after-commands-requires c =
+    let o = c.args.s.commands in (
+      (commands_are o _ (state_limits c.args.s c.requires.s_value).commands).waiters_most,
+      ap (λ (t : Traits). not (t.command && commands_full o)) c.traits_of.ensures ∙ c.requires.commands_value,
     )
 
 pub returns : goal.returns

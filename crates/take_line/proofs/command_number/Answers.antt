@@ -3,5 +3,4 @@ use borrow.Author.Rules.{rules}
 use Rattle.take_line.proofs.command_number.Goals as goal
 
 pub returns : goal.returns
-returns c = let free = c in
-    simp (c.unless.ensures, free.unless-free.ensures, free.unless-room.ensures)
+returns c = simp (c.unless.ensures, c.unless-free.ensures, c.unless-room.ensures)

@@ -11,10 +11,10 @@ pub returns-then-not-t : goal.returns-then-not-t
 returns-then-not-t c = simp (not-true c.args.t.command c.if-not-t.true)
 
 pub accept-requires : goal.accept-requires
-accept-requires c = let s = c in
-    let r : s.args.o.accepted < most_commands =
-    room s.args.o (rw (not-false s.args.t.command c.if-not-t.false) at s.requires.1) in
-    (omega (arith, s.requires.0), r)
+accept-requires c =
+    let r : c.args.o.accepted < most_commands =
+    room c.args.o (rw (not-false c.args.t.command c.if-not-t.false) at c.requires.1) in
+    (omega (arith, c.requires.0), r)
 
 pub returns : goal.returns
 returns c = simp (c.accept.ensures, not-false c.args.t.command c.if-not-t.false)

@@ -22,17 +22,16 @@ own n =
     n.command_number-number.ensures ∙ ap (λ (t : Traits). number_by (own_checks a.waits a.full t [])) n.traits_of-t.ensures
 
 pub returns-then-number-ne-CARRIED_OUT : goal.returns-then-number-ne-CARRIED_OUT
-returns-then-number-ne-CARRIED_OUT c = let n = c in
-    let a = n.args in
+returns-then-number-ne-CARRIED_OUT c =
+    let a = c.args in
     judged_own a.waits a.full (none_bad a.bitmap.now a.reach) (staged_sum a.staging.now a.reach) a.l _ (own (goal.at.returns-then-number-ne-CARRIED_OUT c).After-command_number-number)
     c.if-number-ne-CARRIED_OUT.true
 
 pub returns : goal.returns
-returns c = let e = c in
-    let n = e in
-    let a = n.args in
+returns c =
+    let a = c.args in
     let good = none_bad a.bitmap.now a.reach in
     let sum = staged_sum a.staging.now a.reach in
-    judged_behind a.waits a.full good sum a.l _ (own (goal.at.returns c).After-command_number-number) e.if-number-ne-CARRIED_OUT.false _
+    judged_behind a.waits a.full good sum a.l _ (own (goal.at.returns c).After-command_number-number) c.if-number-ne-CARRIED_OUT.false _
     (subst (λ (t : Traits). JudgedAs c.judge_staged.result (staged_checks good sum t) (cond t.ask sum 0))
-    n.traits_of-t.ensures c.judge_staged.ensures)
+    c.traits_of-t.ensures c.judge_staged.ensures)

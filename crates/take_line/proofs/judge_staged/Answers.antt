@@ -15,26 +15,17 @@ pub sum_agrees-requires : goal.sum_agrees-requires
 sum_agrees-requires c = search rules
 
 pub returns-then-not-none_bad : goal.returns-then-not-none_bad
-returns-then-not-none_bad c = let n = c in
-    let s = n in
-    judged_bad _ _ s.args.t s.requires.load_value _ (sym n.none_bad.ensures ∙ c.if-not-none_bad.true)
+returns-then-not-none_bad c = judged_bad _ _ c.args.t c.requires.load_value _ (sym c.none_bad.ensures ∙ c.if-not-none_bad.true)
 
 pub returns-then-not-sum_agrees : goal.returns-then-not-sum_agrees
-returns-then-not-sum_agrees c = let g = c in
-    let m = g in
-    let n = m in
-    let s = n in
-    judged_differs _ _ s.args.t s.requires.load_value _
-    (sym n.none_bad.ensures ∙ m.if-not-none_bad.false)
-    (sym (g.sum_agrees.ensures ∙ ap (sum_agrees s.args.t.sum) m.staged_sum-sum.ensures) ∙ c.if-not-sum_agrees.true)
+returns-then-not-sum_agrees c =
+    judged_differs _ _ c.args.t c.requires.load_value _
+    (sym c.none_bad.ensures ∙ c.if-not-none_bad.false)
+    (sym (c.sum_agrees.ensures ∙ ap (sum_agrees c.args.t.sum) c.staged_sum-sum.ensures) ∙ c.if-not-sum_agrees.true)
 
 pub returns : goal.returns
-returns c = let e = c in
-    let g = e in
-    let m = g in
-    let n = m in
-    let s = n in
-    judged_right _ _ s.args.t s.requires.load_value _
-    (sym n.none_bad.ensures ∙ m.if-not-none_bad.false)
-    (sym (g.sum_agrees.ensures ∙ ap (sum_agrees s.args.t.sum) m.staged_sum-sum.ensures) ∙ e.if-not-sum_agrees.false)
-    _ (c.sum_returned.ensures ∙ ap (λ (n : ℕ). cond s.args.t.ask n 0) m.staged_sum-sum.ensures)
+returns c =
+    judged_right _ _ c.args.t c.requires.load_value _
+    (sym c.none_bad.ensures ∙ c.if-not-none_bad.false)
+    (sym (c.sum_agrees.ensures ∙ ap (sum_agrees c.args.t.sum) c.staged_sum-sum.ensures) ∙ c.if-not-sum_agrees.false)
+    _ (c.sum_returned.ensures ∙ ap (λ (n : ℕ). cond c.args.t.ask n 0) c.staged_sum-sum.ensures)

@@ -24,25 +24,11 @@ use borrow.Author.Rules.{rules}
 use Rattle.take_line.proofs.take_line.Goals.{After-judge-judged, Start}
 use Rattle.take_line.proofs.take_line.Goals as goal
 
--- what the line is, and what it is judged by
-abbrev asked : (s : Start) → Line
-asked s = line_of s.args.line.now (ranges_of s.args.state)
-
-abbrev checks : (s : Start) → List Check
-checks s = state_checks s.args.state s.args.line.now s.args.staging.now s.args.bitmap.now
-
-abbrev sum : (s : Start) → ℕ
-sum s = staged_sum s.args.staging.now s.args.state.staging.reach
-
-abbrev good : (s : Start) → Bool
-good s = none_bad s.args.bitmap.now s.args.state.staging.reach
-
 pub judge-judged-requires : goal.judge-judged-requires
-judge-judged-requires c = let p = c in
-    let s = (let q = p in q) in
-    let st = s.args.state in
-    (s.requires.staging_len.0, s.requires.staging_len.1, (addresses_are st.staging (state_limits st s.requires.state_value.0).staging).1)
+judge-judged-requires c =
+    let st = c.args.state in
+    (c.requires.staging_len.0, c.requires.staging_len.1, (addresses_are st.staging (state_limits st c.requires.state_value.0).staging).1)
 
 pub write_echo-requires : goal.write_echo-requires
-write_echo-requires c = let s = c in
-    let st = s.args.state in record { echo_len = s.requires.echo_len; accepted_le_most_commands = (commands_are st.commands (ranges_of st) (state_limits st s.requires.state_value.0).commands).accepted_most }
+write_echo-requires c =
+    let st = c.args.state in record { echo_len = c.requires.echo_len; accepted_le_most_commands = (commands_are st.commands (ranges_of st) (state_limits st c.requires.state_value.0).commands).accepted_most }

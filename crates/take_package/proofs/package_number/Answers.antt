@@ -6,6 +6,4 @@ use Rattle.take_package.proofs.package_number.Goals as goal
 
 pub returns : goal.returns
 unfolding package_call_number package_number
-returns c = let j = c in
-    let l = j in
-    simp (c.unless.ensures, c.unless-free.ensures, j.judge-judged.ensures, l.load_waits-waits.ensures, l.within_limits-limits.ensures)
+returns c = simp (c.unless.ensures, c.unless-free.ensures, c.judge-judged.ensures, c.load_waits-waits.ensures, c.within_limits-limits.ensures)

@@ -8,10 +8,9 @@ use borrow.Author.Rules.{rules}
 use Rattle.take_package.proofs.stage.Goals as goal
 
 pub payload_bytes-many-requires : goal.payload_bytes-many-requires
-payload_bytes-many-requires c = let s = c in
-    placeable_formed s.args.bytes.now s.args.s.staging.next s.requires.next_value
+payload_bytes-many-requires c = placeable_formed c.args.bytes.now c.args.s.staging.next c.requires.next_value
 
 pub put_bits-requires : goal.put_bits-requires
-put_bits-requires c = let s = c in
-    let f = placeable_fits s.args.bytes.now s.args.s.staging.next s.requires.next_value in
-    (s.requires.staging_len.1, omega (arith, f, c.payload_bytes-many.ensures.0))
+put_bits-requires c =
+    let f = placeable_fits c.args.bytes.now c.args.s.staging.next c.requires.next_value in
+    (c.requires.staging_len.1, omega (arith, f, c.payload_bytes-many.ensures.0))

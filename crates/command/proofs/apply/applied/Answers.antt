@@ -5,5 +5,4 @@ use borrow.Author.Rules.{rules}
 use Rattle.command.proofs.apply.applied.Goals as goal
 
 pub returns-in-Set : goal.returns-in-Set
-returns-in-Set c = let k = c in
-    c.changed.ensures ∙ sym (ap (settings_after k.args.s) k.in-Set.is)
+returns-in-Set c = c.changed.ensures ∙ sym (ap (settings_after c.args.s) c.in-Set.is)

@@ -11,15 +11,14 @@ use borrow.Author.Rules.{rules}
 use Rattle.command.proofs.argument.all_digits.Goals as goal
 
 pub returns-then-not-is_digit : goal.returns-then-not-is_digit
-returns-then-not-is_digit c = let l = c in
+returns-then-not-is_digit c =
     let e = sym c.is_digit.ensures ∙ c.if-not-is_digit.true in
-    sym (all_stop is_digit l.args.w.now 0 l.loop-i.i (omega arith) e l.loop-i.invariant.1)
+    sym (all_stop is_digit c.args.w.now 0 c.loop-i.i (omega arith) e c.loop-i.invariant.1)
 
 pub loop-i-preserved : goal.loop-i-preserved
-loop-i-preserved c = let l = c in
+loop-i-preserved c =
     let e = sym c.is_digit.ensures ∙ c.if-not-is_digit.false in
-    (omega arith, all_step is_digit l.args.w.now 0 l.loop-i.i (omega arith) e l.loop-i.invariant.1)
+    (omega arith, all_step is_digit c.args.w.now 0 c.loop-i.i (omega arith) e c.loop-i.invariant.1)
 
 pub returns : goal.returns
-returns c = let l = c in
-    sym (all_end is_digit l.args.w.now 0 l.loop-i.i (omega arith) l.loop-i.invariant.1)
+returns c = sym (all_end is_digit c.args.w.now 0 c.loop-i.i (omega arith) c.loop-i.invariant.1)

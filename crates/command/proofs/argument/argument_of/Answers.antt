@@ -16,15 +16,15 @@ returns-then-w-gt-MAX_DIGITS c = simp (le-leb _ _ c.if-w-lt1.false, lt-leb _ _ c
 
 pub returns-then-not-all_digits : goal.returns-then-not-all_digits
 unfolding argument_of
-returns-then-not-all_digits c = let s = c in
+returns-then-not-all_digits c =
     let digits = sym c.all_digits.ensures ∙ c.if-not-all_digits.true in
-    simp (le-leb _ _ s.if-w-lt1.false, le-leb _ _ s.if-w-gt-MAX_DIGITS.false, digits)
+    simp (le-leb _ _ c.if-w-lt1.false, le-leb _ _ c.if-w-gt-MAX_DIGITS.false, digits)
 
 pub value-requires : goal.value-requires
 value-requires c = record { w_len_bound = omega arith; w_value = sym c.all_digits.ensures ∙ c.if-not-all_digits.false }
 
 pub returns : goal.returns
 unfolding argument_of
-returns c = let s = c in
+returns c =
     let digits = sym c.all_digits.ensures ∙ c.if-not-all_digits.false in
-    simp (le-leb _ _ s.if-w-lt1.false, le-leb _ _ s.if-w-gt-MAX_DIGITS.false, digits, sym c.value.ensures)
+    simp (le-leb _ _ c.if-w-lt1.false, le-leb _ _ c.if-w-gt-MAX_DIGITS.false, digits, sym c.value.ensures)

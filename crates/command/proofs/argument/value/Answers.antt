@@ -16,27 +16,23 @@ pub overflow_mul-n : goal.overflow_mul-n
 overflow_mul-n c = omega (arith, hex_room c.loop-i.n 0 c.loop-i.i (omega arith) (omega arith) (omega arith))
 
 pub digit_value-requires : goal.digit_value-requires
-digit_value-requires c = let l = c in
-    let s = l in
-    all_get is_digit s.args.w.now 0 l.loop-i.i (omega arith) s.requires.w_value
+digit_value-requires c = all_get is_digit c.args.w.now 0 c.loop-i.i (omega arith) c.requires.w_value
 
 pub overflow_add-n : goal.overflow_add-n
-overflow_add-n c = let l = c in
-    omega (arith, hex_room l.loop-i.n c.digit_value.result l.loop-i.i (omega arith) (omega arith) (omega arith))
+overflow_add-n c = omega (arith, hex_room c.loop-i.n c.digit_value.result c.loop-i.i (omega arith) (omega arith) (omega arith))
 
 pub loop-i-preserved : goal.loop-i-preserved
-loop-i-preserved c = let l = c in
-    let w = l.args.w.now in
-    let n = l.loop-i.n in
-    let i = l.loop-i.i in
+loop-i-preserved c =
+    let w = c.args.w.now in
+    let n = c.loop-i.n in
+    let i = c.loop-i.i in
     let r = c.digit_value.result in (
       omega arith,
       (hex_room n r i (omega arith) (omega arith) (omega arith)).0,
       ap (λ (d : ℕ). hex_behind (16 * n + d) (drop (i + 1) w)) c.digit_value.ensures.0
           ∙ sym (hex_step n w i (omega arith))
-          ∙ l.loop-i.invariant.2,
+          ∙ c.loop-i.invariant.2,
     )
 
 pub returns : goal.returns
-returns c = let l = c in
-    sym (hex_end l.loop-i.n l.args.w.now l.loop-i.i (omega arith)) ∙ l.loop-i.invariant.2
+returns c = sym (hex_end c.loop-i.n c.args.w.now c.loop-i.i (omega arith)) ∙ c.loop-i.invariant.2

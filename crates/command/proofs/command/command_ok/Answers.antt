@@ -11,7 +11,7 @@ of_told : (s : Start) {x : Command} → s.args.c ≡ x → command_ok x s.args.r
 of_told s e = sym (ap (λ (x : Command). command_ok x s.args.ranges) e)
 
 pub returns-in-Set : goal.returns-in-Set
-returns-in-Set c = let k = c in rw c.most_of.ensures (of_told (goal.at.returns-in-Set c).Start k.in-Set.is)
+returns-in-Set c = rw c.most_of.ensures (of_told (goal.at.returns-in-Set c).Start c.in-Set.is)
 
 pub returns-in-Load : goal.returns-in-Load
-returns-in-Load c = let k = c in c.load_lawful.ensures ∙ of_told (goal.at.returns-in-Load c).Start k.in-Load.is
+returns-in-Load c = c.load_lawful.ensures ∙ of_told (goal.at.returns-in-Load c).Start c.in-Load.is

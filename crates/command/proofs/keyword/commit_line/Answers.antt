@@ -13,5 +13,6 @@ unfolding right_if load_lawful
 returns-then-y c = simp (lt-leb _ _ c.if-y.true)
 
 pub returns : goal.returns
-returns c = let a = c.args in
+returns c =
+    let a = c.args in
     c.right_if.ensures ∙ ap (λ (ok : Bool). right_if ok (Commit a.a a.y a.sum)) c.load_lawful.ensures

@@ -7,11 +7,10 @@ use Rattle.command.proofs.keyword.one_argument.Goals as goal
 
 pub returns-in-Value : goal.returns-in-Value
 unfolding one_argument
-returns-in-Value c = let n = c in
-    let s = n.args in
-    c.with_one.ensures ∙ sym (ap (λ (x : Argument). one_argument s.keyword.now x s.ranges) n.in-Value.is)
+returns-in-Value c =
+    let s = c.args in
+    c.with_one.ensures ∙ sym (ap (λ (x : Argument). one_argument s.keyword.now x s.ranges) c.in-Value.is)
 
 pub returns-in-Malformed : goal.returns-in-Malformed
 unfolding one_argument
-returns-in-Malformed c = let s = c in
-    sym (ap (λ (x : Argument). one_argument s.args.keyword.now x s.args.ranges) c.in-Malformed.is)
+returns-in-Malformed c = sym (ap (λ (x : Argument). one_argument c.args.keyword.now x c.args.ranges) c.in-Malformed.is)

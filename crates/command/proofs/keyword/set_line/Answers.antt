@@ -6,8 +6,10 @@ use Rattle.command.proofs.keyword.set_line.Goals as goal
 
 pub returns-then-n-most_of : goal.returns-then-n-most_of
 unfolding right_if
-returns-then-n-most_of c = let e = c.most_of.ensures in simp (le-leb _ _ (rw e at c.if-n-most_of.true))
+returns-then-n-most_of c =
+    let e = c.most_of.ensures in simp (le-leb _ _ (rw e at c.if-n-most_of.true))
 
 pub returns-else-n-most_of : goal.returns-else-n-most_of
 unfolding right_if
-returns-else-n-most_of c = let e = c.most_of.ensures in simp (lt-leb _ _ (rw e at c.if-n-most_of.false))
+returns-else-n-most_of c =
+    let e = c.most_of.ensures in simp (lt-leb _ _ (rw e at c.if-n-most_of.false))

@@ -6,12 +6,13 @@ use borrow.Author.Rules.{rules}
 use Rattle.command.proofs.keyword.three_arguments.Goals as goal
 
 pub returns-in-Value : goal.returns-in-Value
-returns-in-Value c = let n = c in
-    let s = n.args in
+returns-in-Value c =
+    let s = c.args in
     c.after_first.ensures
-    ∙ sym (ap (λ (x : Argument). three_arguments s.keyword.now x s.m s.l s.ranges) n.in-Value.is)
+    ∙ sym (ap (λ (x : Argument). three_arguments s.keyword.now x s.m s.l s.ranges) c.in-Value.is)
 
 pub returns-in-Malformed : goal.returns-in-Malformed
 unfolding three_arguments
-returns-in-Malformed c = let s = c.args in
+returns-in-Malformed c =
+    let s = c.args in
     sym (ap (λ (x : Argument). three_arguments s.keyword.now x s.m s.l s.ranges) c.in-Malformed.is)

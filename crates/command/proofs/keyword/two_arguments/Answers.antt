@@ -7,17 +7,16 @@ use Rattle.command.proofs.keyword.two_arguments.Goals as goal
 
 pub returns-in-Value-m : goal.returns-in-Value-m
 unfolding two_arguments
-returns-in-Value-m c = let n = c in
-    let s = n.args in
-    c.with_two.ensures ∙ sym (λ i. two_arguments s.keyword.now (n.in-Value.is i) (c.in-Value-m.is i) s.ranges)
+returns-in-Value-m c =
+    let s = c.args in
+    c.with_two.ensures ∙ sym (λ i. two_arguments s.keyword.now (c.in-Value.is i) (c.in-Value-m.is i) s.ranges)
 
 pub returns-in-Malformed-m : goal.returns-in-Malformed-m
 unfolding two_arguments
-returns-in-Malformed-m c = let n = c in
-    let s = n.args in
-    sym (λ i. two_arguments s.keyword.now (n.in-Value.is i) (c.in-Malformed-m.is i) s.ranges)
+returns-in-Malformed-m c =
+    let s = c.args in
+    sym (λ i. two_arguments s.keyword.now (c.in-Value.is i) (c.in-Malformed-m.is i) s.ranges)
 
 pub returns-in-Malformed : goal.returns-in-Malformed
 unfolding two_arguments
-returns-in-Malformed c = let s = c in
-    sym (ap (λ (x : Argument). two_arguments s.args.keyword.now x s.args.m s.args.ranges) c.in-Malformed.is)
+returns-in-Malformed c = sym (ap (λ (x : Argument). two_arguments c.args.keyword.now x c.args.m c.args.ranges) c.in-Malformed.is)

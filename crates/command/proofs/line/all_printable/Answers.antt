@@ -11,15 +11,14 @@ use borrow.Author.Rules.{rules}
 use Rattle.command.proofs.line.all_printable.Goals as goal
 
 pub returns-then-not-is_printable : goal.returns-then-not-is_printable
-returns-then-not-is_printable c = let l = c in
+returns-then-not-is_printable c =
     let e = sym c.is_printable.ensures ∙ c.if-not-is_printable.true in
-    sym (all_stop printable l.args.line.now 0 l.loop-i.i (omega arith) e l.loop-i.invariant.1)
+    sym (all_stop printable c.args.line.now 0 c.loop-i.i (omega arith) e c.loop-i.invariant.1)
 
 pub loop-i-preserved : goal.loop-i-preserved
-loop-i-preserved c = let l = c in
+loop-i-preserved c =
     let e = sym c.is_printable.ensures ∙ c.if-not-is_printable.false in
-    (omega arith, all_step printable l.args.line.now 0 l.loop-i.i (omega arith) e l.loop-i.invariant.1)
+    (omega arith, all_step printable c.args.line.now 0 c.loop-i.i (omega arith) e c.loop-i.invariant.1)
 
 pub returns : goal.returns
-returns c = let l = c in
-    sym (all_end printable l.args.line.now 0 l.loop-i.i (omega arith) l.loop-i.invariant.1)
+returns c = sym (all_end printable c.args.line.now 0 c.loop-i.i (omega arith) c.loop-i.invariant.1)

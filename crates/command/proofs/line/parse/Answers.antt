@@ -19,49 +19,40 @@ unfolding line_of
 returns-then-line-eq0 c = rw (eq-eqb _ _ c.if-line-eq0.true)
 
 pub returns-then-line-k : goal.returns-then-line-k
-returns-then-line-k c = let w = c in
-    let s = w.args in
+returns-then-line-k c =
+    let s = c.args in
     sym
-    (line_bare s.line.now s.ranges w.length_before-k.result w.if-line-eq0.false w.length_before-k.ensures.0 c.if-line-k.true)
+    (line_bare s.line.now s.ranges c.length_before-k.result c.if-line-eq0.false c.length_before-k.ensures.0 c.if-line-k.true)
 
 pub slice_bounds-keyword-end : goal.slice_bounds-keyword-end
 slice_bounds-keyword-end c = sym (length-take-le _ _ (omega arith))
 
 pub returns-then-rest-m : goal.returns-then-rest-m
-returns-then-rest-m c = let t = c in
-    let w2 = t in
-    let e2 = w2 in
-    let w1 = e2 in
-    let e1 = w1 in
-    let s = e1.args in
+returns-then-rest-m c =
+    let s = c.args in
     let line = s.line.now in
-    let k = w1.length_before-k.result in
+    let k = c.length_before-k.result in
     let rest : List ℕ = take (length line - (k + 1)) (drop (k + 1) line) in
     let lr : length rest ≡ length line - (k + 1) = length_part line (k + 1) (length line - (k + 1)) (omega arith) in
     c.one_argument.ensures
     ∙ ap (λ (a : Argument). one_argument (take k line) a s.ranges) c.argument_of.ensures
     ∙ sym
-    (line_one line s.ranges k e1.if-line-eq0.false w1.length_before-k.ensures.0 rest (rest_is line (k + 1)) e2.if-line-k.false (omega arith))
+    (line_one line s.ranges k c.if-line-eq0.false c.length_before-k.ensures.0 rest (rest_is line (k + 1)) c.if-line-k.false (omega arith))
 
 pub slice_bounds-argument_of-end : goal.slice_bounds-argument_of-end
 slice_bounds-argument_of-end c = sym (length-take-le _ _ (omega arith))
 
 pub returns : goal.returns
-returns c = let a2 = c in
-    let e3 = a2 in
-    let w2 = e3 in
-    let e2 = w2 in
-    let w1 = e2 in
-    let e1 = w1 in
-    let s = e1.args in
+returns c =
+    let s = c.args in
     let line = s.line.now in
-    let k = w1.length_before-k.result in
-    let m = w2.length_before-m.result in
+    let k = c.length_before-k.result in
+    let m = c.length_before-m.result in
     let rest : List ℕ = take (length line - (k + 1)) (drop (k + 1) line) in
     let lr : length rest ≡ length line - (k + 1) = length_part line (k + 1) (length line - (k + 1)) (omega arith) in
     let last : List ℕ = take (length rest - (m + 1)) (drop (m + 1) rest) in
     c.parse_more.ensures
-    ∙ ap (λ (a : Argument). more_words (take k line) a (line_words last) s.ranges) a2.argument_of-2.ensures
+    ∙ ap (λ (a : Argument). more_words (take k line) a (line_words last) s.ranges) c.argument_of-2.ensures
     ∙ sym
-    (line_more line s.ranges k e1.if-line-eq0.false w1.length_before-k.ensures.0 rest (rest_is line (k + 1)) e2.if-line-k.false
-    m last w2.length_before-m.ensures.0 (rest_is rest (m + 1)) (omega arith))
+    (line_more line s.ranges k c.if-line-eq0.false c.length_before-k.ensures.0 rest (rest_is line (k + 1)) c.if-line-k.false
+    m last c.length_before-m.ensures.0 (rest_is rest (m + 1)) (omega arith))

@@ -14,10 +14,10 @@ loop-i-init c = (omega arith, each_start _)
 
 pub loop-i-preserved : goal.loop-i-preserved
 unfolding codes_good
-loop-i-preserved c = let l = c in
-    let mark = mark_of l.args.packet.now in
-    (omega arith, each_turn _ l.loop-i.i l.loop-i.invariant.1 (c.valid-good.ensures ∙ ap (valid_by mark) c.u16_at-code.ensures))
+loop-i-preserved c =
+    let mark = mark_of c.args.packet.now in
+    (omega arith, each_turn _ c.loop-i.i c.loop-i.invariant.1 (c.valid-good.ensures ∙ ap (valid_by mark) c.u16_at-code.ensures))
 
 pub returns : goal.returns
 unfolding codes_good
-returns c = let l = c in each_end _ l.loop-i.i l.args.n (omega arith) (omega arith) l.loop-i.invariant.1
+returns c = each_end _ c.loop-i.i c.args.n (omega arith) (omega arith) c.loop-i.invariant.1

@@ -7,9 +7,9 @@ use Rattle.decode.proofs.faults.header_good.Goals as goal
 
 pub returns-then-packet-eq-PACKET_BYTES : goal.returns-then-packet-eq-PACKET_BYTES
 unfolding header_good
-returns-then-packet-eq-PACKET_BYTES c = let f = c in
+returns-then-packet-eq-PACKET_BYTES c =
     let e = c.is_kind.ensures ∙ ap is_kind (c.kind_of.ensures ∙ ap kind_of c.application.ensures) in
-    simp (e, f.fields_good.ensures, eq-eqb _ _ f.if-packet-eq-PACKET_BYTES.true)
+    simp (e, c.fields_good.ensures, eq-eqb _ _ c.if-packet-eq-PACKET_BYTES.true)
 
 pub returns-else-packet-eq-PACKET_BYTES : goal.returns-else-packet-eq-PACKET_BYTES
 unfolding header_good

@@ -14,7 +14,8 @@ has_header c = sym c.header_good.ensures ∙ c.if-not-header_good.false
 
 pub returns-then-not-header_good : goal.returns-then-not-header_good
 unfolding read_number
-returns-then-not-header_good c = let h = c.header_good in
+returns-then-not-header_good c =
+    let h = c.header_good in
     rw (sym h.ensures ∙ c.if-not-header_good.true)
 
 pub application-requires : goal.application-requires
@@ -28,10 +29,8 @@ sum_good-requires c = header_length _ (has_header (goal.at.sum_good-requires c).
 
 pub returns : goal.returns
 unfolding read_number
-returns c = let s = c in
-    let b = s in
-    let k = b in
-    let a = k.args in
+returns c =
+    let a = c.args in
     let xs = a.packet.now in
-    let e = b.body_good-good.ensures ∙ ap (λ (t : Kind). body_good t xs) (k.kind_of.ensures ∙ ap kind_of k.application.ensures) in
-    simp (c.unless-2.ensures, c.unless.ensures, s.sum_good.ensures, e, has_header (goal.at.returns c).Else-not-header_good)
+    let e = c.body_good-good.ensures ∙ ap (λ (t : Kind). body_good t xs) (c.kind_of.ensures ∙ ap kind_of c.application.ensures) in
+    simp (c.unless-2.ensures, c.unless.ensures, c.sum_good.ensures, e, has_header (goal.at.returns c).Else-not-header_good)

@@ -5,5 +5,4 @@ use Rattle.decode.proofs.faults.rate_good.Goals as goal
 
 pub returns : goal.returns
 unfolding rate_good
-returns c = let k = c in
-    simp (c.end_good.ensures, c.u16_at.ensures, k.codes_good.ensures)
+returns c = simp (c.end_good.ensures, c.u16_at.ensures, c.codes_good.ensures)

@@ -51,8 +51,8 @@ module _ (a b c d : ℕ) (ha : a ≤ 255) (hb : b ≤ 255) (hc : c ≤ 255) (hd 
       ∙ sym (ap (λ (n : ℕ). eqb x 0 || (leb out_of_bounds_box n && leb n box_count)) box-last)
 
 pub returns : goal.returns
-returns c = let k = c in
-    let s = k.args in
+returns c =
+    let s = c.args in
     let p = s.packet.now in
     let byte : (n : ℕ) → get_or p n 0 ≤ 255 = λ n. omega (arith, c.type_inv.packet n) in
     let at = s.at in

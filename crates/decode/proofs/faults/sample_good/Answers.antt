@@ -5,5 +5,4 @@ use Rattle.decode.proofs.faults.sample_good.Goals as goal
 
 pub returns : goal.returns
 unfolding sample_good
-returns c = let k = c in
-    simp (c.records_good.ensures, k.of_sample.ensures.0, k.application.ensures)
+returns c = simp (c.records_good.ensures, c.of_sample.ensures.0, c.application.ensures)

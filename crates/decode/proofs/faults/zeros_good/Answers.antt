@@ -13,9 +13,8 @@ loop-i-init c = (omega arith, each_start _)
 
 pub loop-i-preserved : goal.loop-i-preserved
 unfolding zeros_good
-loop-i-preserved c = let l = c in
-    (omega arith, each_turn _ l.loop-i.i l.loop-i.invariant.1 refl)
+loop-i-preserved c = (omega arith, each_turn _ c.loop-i.i c.loop-i.invariant.1 refl)
 
 pub returns : goal.returns
 unfolding zeros_good
-returns c = let l = c in each_end _ l.loop-i.i l.args.n (omega arith) (omega arith) l.loop-i.invariant.1
+returns c = each_end _ c.loop-i.i c.args.n (omega arith) (omega arith) c.loop-i.invariant.1

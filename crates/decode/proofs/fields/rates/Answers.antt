@@ -15,22 +15,19 @@ loop-i-init c = (omega arith, table_none _, refl)
 
 pub least_count-requires : goal.least_count-requires
 unfolding codes_good
-least_count-requires c = let l = c in
-    let s = l in
-    ap (valid_by (mark_of s.args.packet.now)) c.u16_at-code.ensures ∙ each_at _ _ l.loop-i.i (omega arith) s.requires.packet_value
+least_count-requires c = ap (valid_by (mark_of c.args.packet.now)) c.u16_at-code.ensures ∙ each_at _ _ c.loop-i.i (omega arith) c.requires.packet_value
 
 pub loop-i-preserved : goal.loop-i-preserved
 unfolding rates_of
-loop-i-preserved c = let l = c in
-    let mark = mark_of l.args.packet.now in
-    let i = l.loop-i.i in (
+loop-i-preserved c =
+    let mark = mark_of c.args.packet.now in
+    let i = c.loop-i.i in (
       omega arith,
-      table_turn _ l.loop-i.counts i (omega arith) l.loop-i.invariant.1
+      table_turn _ c.loop-i.counts i (omega arith) c.loop-i.invariant.1
           (c.least_count.ensures ∙ ap (least_by mark) c.u16_at-code.ensures),
-      simp length-set l.loop-i.invariant.2,
+      simp length-set c.loop-i.invariant.2,
     )
 
 pub returns : goal.returns
 unfolding rates_of
-returns c = let l = c in
-    table_end _ l.loop-i.counts l.loop-i.i _ (omega arith) (omega arith) l.loop-i.invariant.2 l.loop-i.invariant.1
+returns c = table_end _ c.loop-i.counts c.loop-i.i _ (omega arith) (omega arith) c.loop-i.invariant.2 c.loop-i.invariant.1

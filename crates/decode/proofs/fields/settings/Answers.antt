@@ -5,7 +5,4 @@ use Rattle.decode.proofs.fields.settings.Goals as goal
 
 pub returns : goal.returns
 unfolding settings_of
-returns c = let i = c in
-    let k = i in
-    let l = k in
-    simp (i.is_set-4.ensures, i.is_set-3.ensures, k.is_set-2.ensures, k.is_set.ensures, l.u16_at.ensures)
+returns c = simp (c.is_set-4.ensures, c.is_set-3.ensures, c.is_set-2.ensures, c.is_set.ensures, c.u16_at.ensures)

@@ -15,12 +15,8 @@ returns-then-application-eq-BEACON_APPLICATION c = simp (ne_eqb _ _ c.if-applica
 
 pub returns-then-application-of_sample : goal.returns-then-application-of_sample
 unfolding kind_of
-returns-then-application-of_sample c = let k = c in
-    let l = k in
-    simp (ne_eqb _ _ l.if-application-eq-RATE_APPLICATION.false, ne_eqb _ _ l.if-application-eq-BEACON_APPLICATION.false, sym k.of_sample.ensures.0, c.if-application-of_sample.true)
+returns-then-application-of_sample c = simp (ne_eqb _ _ c.if-application-eq-RATE_APPLICATION.false, ne_eqb _ _ c.if-application-eq-BEACON_APPLICATION.false, sym c.of_sample.ensures.0, c.if-application-of_sample.true)
 
 pub returns : goal.returns
 unfolding kind_of
-returns c = let k = c in
-    let l = k in
-    simp (ne_eqb _ _ l.if-application-eq-RATE_APPLICATION.false, ne_eqb _ _ l.if-application-eq-BEACON_APPLICATION.false, sym k.of_sample.ensures.0, c.if-application-of_sample.false)
+returns c = simp (ne_eqb _ _ c.if-application-eq-RATE_APPLICATION.false, ne_eqb _ _ c.if-application-eq-BEACON_APPLICATION.false, sym c.of_sample.ensures.0, c.if-application-of_sample.false)

@@ -5,5 +5,4 @@ use Rattle.ground.proofs.contents.accepted.Goals as goal
 
 pub returns : goal.returns
 unfolding accepted
-returns c = let k = c in
-    simp (c.u16_at.ensures, c.u32_at.ensures, k.sequence.ensures, k.application.ensures)
+returns c = simp (c.u16_at.ensures, c.u32_at.ensures, c.sequence.ensures, c.application.ensures)

@@ -10,5 +10,4 @@ rates-requires c = record { packet_len = omega arith; packet_value = rate_codes 
 
 pub returns : goal.returns
 unfolding contents
-returns c = let k = c in
-    simp (c.accepted.ensures, c.u24_at-sum.ensures.0, k.settings-settings.ensures, k.rates.ensures)
+returns c = simp (c.accepted.ensures, c.u24_at-sum.ensures.0, c.settings-settings.ensures, c.rates.ensures)

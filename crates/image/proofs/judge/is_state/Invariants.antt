@@ -12,7 +12,8 @@ use Rattle.image.proofs.judge.is_state.Given as goal
 
 -- entry i is some command
 abbrev pub right : List ℕ → ℕ → Bool
-right b i = let at = entries_at + entry_bytes * i in entry_good (get_or b at 0) (at32 b (at + 1))
+right b i =
+    let at = entries_at + entry_bytes * i in entry_good (get_or b at 0) (at32 b (at + 1))
 
 abbrev pub invariant-loop-i : goal.invariant-loop-i
 invariant-loop-i l = (l.i ≤ 32) × (l.ok ≡ each l.i (right l.image))

@@ -12,13 +12,12 @@ loop-i-init c = (omega arith, waitings_none _, refl)
 
 pub loop-i-preserved : goal.loop-i-preserved
 unfolding commands_at
-loop-i-preserved c = let l = c in (
+loop-i-preserved c = (
   omega arith,
-  waitings_turn _ l.loop-i.a l.loop-i.i (omega arith) l.loop-i.invariant.1 c.entry_at-w.ensures,
-  simp length-set l.loop-i.invariant.2,
+  waitings_turn _ c.loop-i.a c.loop-i.i (omega arith) c.loop-i.invariant.1 c.entry_at-w.ensures,
+  simp length-set c.loop-i.invariant.2,
 )
 
 pub returns : goal.returns
 unfolding commands_at
-returns c = let l = c in
-    waitings_end _ l.loop-i.a l.loop-i.i _ (omega arith) (omega arith) l.loop-i.invariant.2 l.loop-i.invariant.1
+returns c = waitings_end _ c.loop-i.a c.loop-i.i _ (omega arith) (omega arith) c.loop-i.invariant.2 c.loop-i.invariant.1

@@ -4,13 +4,11 @@ use Rattle.image.proofs.read.decode.Goals as goal
 
 pub returns : goal.returns
 unfolding state_of
-returns c = let u = c in
-    let o = u in
-    simp (
-      c.u16_at.ensures,
-      u.u32_at-2.ensures,
-      u.u32_at.ensures,
-      o.command_list_in-commands.ensures,
-      o.settings_in-settings.ensures,
-      o.interval_in-interval.ensures,
-    )
+returns c = simp (
+  c.u16_at.ensures,
+  c.u32_at-2.ensures,
+  c.u32_at.ensures,
+  c.command_list_in-commands.ensures,
+  c.settings_in-settings.ensures,
+  c.interval_in-interval.ensures,
+)

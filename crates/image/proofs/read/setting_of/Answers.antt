@@ -17,21 +17,18 @@ returns-then-kind-eq2 c = simp (ne_eqb _ _ c.if-kind-eq0.false, ne_eqb _ _ c.if-
 
 pub returns-then-kind-eq3 : goal.returns-then-kind-eq3
 unfolding setting_of
-returns-then-kind-eq3 c = let b = c in
-    simp (ne_eqb _ _ b.if-kind-eq0.false, ne_eqb _ _ b.if-kind-eq1.false, ne_eqb _ _ c.if-kind-eq2.false, eq-eqb _ _ c.if-kind-eq3.true)
+returns-then-kind-eq3 c = simp (ne_eqb _ _ c.if-kind-eq0.false, ne_eqb _ _ c.if-kind-eq1.false, ne_eqb _ _ c.if-kind-eq2.false, eq-eqb _ _ c.if-kind-eq3.true)
 
 pub returns-then-kind-eq4 : goal.returns-then-kind-eq4
 unfolding setting_of
-returns-then-kind-eq4 c = let b = c in
-    let a = b in
-    let n₃ = ne_eqb _ _ b.if-kind-eq2.false in
+returns-then-kind-eq4 c =
+    let n₃ = ne_eqb _ _ c.if-kind-eq2.false in
     let n₄ = ne_eqb _ _ c.if-kind-eq3.false in
-    simp (ne_eqb _ _ a.if-kind-eq0.false, ne_eqb _ _ a.if-kind-eq1.false, n₃, n₄, eq-eqb _ _ c.if-kind-eq4.true)
+    simp (ne_eqb _ _ c.if-kind-eq0.false, ne_eqb _ _ c.if-kind-eq1.false, n₃, n₄, eq-eqb _ _ c.if-kind-eq4.true)
 
 pub returns : goal.returns
 unfolding setting_of
-returns c = let b = c in
-    let a = b in
-    let n₃ = ne_eqb _ _ b.if-kind-eq2.false in
+returns c =
+    let n₃ = ne_eqb _ _ c.if-kind-eq2.false in
     let n₄ = ne_eqb _ _ c.if-kind-eq3.false in
-    simp (ne_eqb _ _ a.if-kind-eq0.false, ne_eqb _ _ a.if-kind-eq1.false, n₃, n₄, ne_eqb _ _ c.if-kind-eq4.false)
+    simp (ne_eqb _ _ c.if-kind-eq0.false, ne_eqb _ _ c.if-kind-eq1.false, n₃, n₄, ne_eqb _ _ c.if-kind-eq4.false)

@@ -4,7 +4,4 @@ use Rattle.image.proofs.read.settings_in.Goals as goal
 
 pub returns : goal.returns
 unfolding settings_in
-returns c = let i = c in
-    let k = i in
-    let l = k in
-    simp (i.is_set-4.ensures, i.is_set-3.ensures, k.is_set-2.ensures, k.is_set.ensures, l.u16_at.ensures)
+returns c = simp (c.is_set-4.ensures, c.is_set-3.ensures, c.is_set-2.ensures, c.is_set.ensures, c.u16_at.ensures)

@@ -12,13 +12,12 @@ loop-i-init c = (omega arith, table_none _, refl)
 
 pub loop-i-preserved : goal.loop-i-preserved
 unfolding numbers_at
-loop-i-preserved c = let l = c in (
+loop-i-preserved c = (
   omega arith,
-  table_turn _ l.loop-i.out l.loop-i.i (omega arith) l.loop-i.invariant.1 c.u32_at.ensures,
-  simp length-set l.loop-i.invariant.2,
+  table_turn _ c.loop-i.out c.loop-i.i (omega arith) c.loop-i.invariant.1 c.u32_at.ensures,
+  simp length-set c.loop-i.invariant.2,
 )
 
 pub returns : goal.returns
 unfolding numbers_at
-returns c = let l = c in
-    table_end _ l.loop-i.out l.loop-i.i _ (omega arith) (omega arith) l.loop-i.invariant.2 l.loop-i.invariant.1
+returns c = table_end _ c.loop-i.out c.loop-i.i _ (omega arith) (omega arith) c.loop-i.invariant.2 c.loop-i.invariant.1

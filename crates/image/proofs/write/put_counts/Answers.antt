@@ -11,8 +11,5 @@ boxes : (s : Start) → length s.args.c.boxes ≡ 116
 boxes s = sym (length-map s.args.c.boxes (λ v. v)) ∙ (search rules)
 
 pub returns : goal.returns
-returns c = let w2 = c in
-    let w1 = w2 in
-    let s = w1 in
-    then _ _ _ _ _ w1.put_words.ensures w2.put_words-2.ensures
-    (omega (arith, boxes (goal.at.returns c).Start, length_words s.args.c.boxes)) (omega arith)
+returns c = then _ _ _ _ _ c.put_words.ensures c.put_words-2.ensures
+    (omega (arith, boxes (goal.at.returns c).Start, length_words c.args.c.boxes)) (omega arith)

@@ -9,12 +9,13 @@ use Rattle.listing_packet.proofs.judge.address_listed.Goals as goal
 
 pub returns-then-i-lt-PACKETS : goal.returns-then-i-lt-PACKETS
 unfolding address_listed
-returns-then-i-lt-PACKETS c = let u = c in
-    let e = u.place_in-i.ensures in
+returns-then-i-lt-PACKETS c =
+    let e = c.place_in-i.ensures in
     let q = sym (ap (λ (n : ℕ). ltb n listing_packets) e) ∙ lt-ltb _ _ c.if-i-lt-PACKETS.true in
-    simp (q, u.u24_at-address.ensures.0, e)
+    simp (q, c.u24_at-address.ensures.0, e)
 
 pub returns-else-i-lt-PACKETS : goal.returns-else-i-lt-PACKETS
 unfolding address_listed
-returns-else-i-lt-PACKETS c = let e = c.place_in-i.ensures in
+returns-else-i-lt-PACKETS c =
+    let e = c.place_in-i.ensures in
     rw (sym (ap (λ (n : ℕ). ltb n listing_packets) e) ∙ le-ltb _ _ c.if-i-lt-PACKETS.false)

@@ -31,47 +31,37 @@ returns-then-tables-ne-TABLE_BYTES c = simp (ne_eqb _ _ c.if-tables-ne-TABLE_BYT
 
 pub returns-then-not-listing_header : goal.returns-then-not-listing_header
 unfolding gather_number
-returns-then-not-listing_header c = let h = c in
-    simp (length_passed (goal.at.returns-then-not-listing_header c).Else-tables-ne-TABLE_BYTES, sym h.listing_header.ensures ∙ c.if-not-listing_header.true)
+returns-then-not-listing_header c = simp (length_passed (goal.at.returns-then-not-listing_header c).Else-tables-ne-TABLE_BYTES, sym c.listing_header.ensures ∙ c.if-not-listing_header.true)
 
 pub sum_good-requires : goal.sum_good-requires
 sum_good-requires c = header_length _ (header_passed (goal.at.sum_good-requires c).Else-not-listing_header)
 
 pub returns-then-not-sum_good : goal.returns-then-not-sum_good
 unfolding gather_number
-returns-then-not-sum_good c = let s = c in
-    let e2 = s in
-    simp (length_passed (goal.at.returns-then-not-sum_good c).Else-tables-ne-TABLE_BYTES, header_passed (goal.at.returns-then-not-sum_good c).Else-not-listing_header, sym s.sum_good.ensures ∙ c.if-not-sum_good.true)
+returns-then-not-sum_good c = simp (length_passed (goal.at.returns-then-not-sum_good c).Else-tables-ne-TABLE_BYTES, header_passed (goal.at.returns-then-not-sum_good c).Else-not-listing_header, sym c.sum_good.ensures ∙ c.if-not-sum_good.true)
 
 pub address_listed-requires : goal.address_listed-requires
 address_listed-requires c = header_length _ (header_passed (goal.at.address_listed-requires c).Else-not-listing_header)
 
 pub returns-then-not-address_listed : goal.returns-then-not-address_listed
 unfolding gather_number
-returns-then-not-address_listed c = let a = c in
-    let e3 = a in
-    let e2 = e3 in
-    simp (
-      length_passed (goal.at.returns-then-not-address_listed c).Else-tables-ne-TABLE_BYTES,
-      header_passed (goal.at.returns-then-not-address_listed c).Else-not-listing_header,
-      sum_passed (goal.at.returns-then-not-address_listed c).Else-not-sum_good,
-      sym a.address_listed.ensures ∙ c.if-not-address_listed.true,
-    )
+returns-then-not-address_listed c = simp (
+  length_passed (goal.at.returns-then-not-address_listed c).Else-tables-ne-TABLE_BYTES,
+  header_passed (goal.at.returns-then-not-address_listed c).Else-not-listing_header,
+  sum_passed (goal.at.returns-then-not-address_listed c).Else-not-sum_good,
+  sym c.address_listed.ensures ∙ c.if-not-address_listed.true,
+)
 
 pub rest_zero-requires : goal.rest_zero-requires
 rest_zero-requires c = (header_length _ (header_passed (goal.at.rest_zero-requires c).Else-not-listing_header), address_passed (goal.at.rest_zero-requires c).Else-not-address_listed)
 
 pub returns : goal.returns
 unfolding gather_number
-returns c = let r = c in
-    let e4 = r in
-    let e3 = e4 in
-    let e2 = e3 in
-    simp (
-      length_passed (goal.at.returns c).Else-tables-ne-TABLE_BYTES,
-      header_passed (goal.at.returns c).Else-not-listing_header,
-      sum_passed (goal.at.returns c).Else-not-sum_good,
-      address_passed (goal.at.returns c).Else-not-address_listed,
-      c.unless.ensures,
-      r.rest_zero.ensures,
-    )
+returns c = simp (
+  length_passed (goal.at.returns c).Else-tables-ne-TABLE_BYTES,
+  header_passed (goal.at.returns c).Else-not-listing_header,
+  sum_passed (goal.at.returns c).Else-not-sum_good,
+  address_passed (goal.at.returns c).Else-not-address_listed,
+  c.unless.ensures,
+  c.rest_zero.ensures,
+)

@@ -6,11 +6,8 @@ use Rattle.listing_packet.proofs.ListingLaws.{listed_place}
 use Rattle.listing_packet.proofs.judge.rest_zero.Goals as goal
 
 pub piece_size-n-requires : goal.piece_size-n-requires
-piece_size-n-requires c = let s = c in
-    omega (arith, c.place_in.ensures, listed_place s.args.packet.now s.requires.1)
+piece_size-n-requires c = omega (arith, c.place_in.ensures, listed_place c.args.packet.now c.requires.1)
 
 pub returns : goal.returns
 unfolding rest_zero
-returns c = let z = c in
-    let n = z in
-    simp (c.zeros_good-2.ensures, z.zeros_good.ensures, n.piece_size-n.ensures.0, n.place_in.ensures)
+returns c = simp (c.zeros_good-2.ensures, c.zeros_good.ensures, c.piece_size-n.ensures.0, c.place_in.ensures)

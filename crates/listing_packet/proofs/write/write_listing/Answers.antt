@@ -12,16 +12,12 @@ use Rattle.listing_packet.proofs.write.write_listing.Goals as goal
 
 pub returns : goal.returns
 unfolding listing_packet place_bytes
-returns c = let c4 = c in
-    let c3 = c4 in
-    let c2 = c3 in
-    let c1 = c2 in
-    let s = c1 in
-    let a = s.args in
-    let h = s.requires in
+returns c =
+    let a = c.args in
+    let h = c.requires in
     let inner = place_bytes a.frame a.i ++ piece_of a.i a.tables.now in
     envelope_written a.part.now h.0 _ _ _ inner (length_listing a.i h.2 a.tables.now h.1 a.frame)
-    c1.write_header.ensures
-    (then _ body_at (place_bytes a.frame a.i) (piece_of a.i a.tables.now) words_at c2.write_place.ensures
-    c3.write_words.ensures refl (omega arith))
-    c4.write_sum.ensures
+    c.write_header.ensures
+    (then _ body_at (place_bytes a.frame a.i) (piece_of a.i a.tables.now) words_at c.write_place.ensures
+    c.write_words.ensures refl (omega arith))
+    c.write_sum.ensures

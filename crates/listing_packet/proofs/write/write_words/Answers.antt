@@ -4,10 +4,7 @@ use Rattle.listing_packet.proofs.ListingLaws.{words_written}
 use Rattle.listing_packet.proofs.write.write_words.Goals as goal
 
 pub returns : goal.returns
-returns c = let z = c in
-    let b = z in
-    let p = b in
-    let s = p in
-    let h = s.requires in
-    words_written s.args.i h.2 s.args.tables.now h.1 s.args.part.now p.piece_size-n.result
-    p.piece_size-n.ensures.0 h.0 b.put_bytes.ensures z.put_zeros.ensures
+returns c =
+    let h = c.requires in
+    words_written c.args.i h.2 c.args.tables.now h.1 c.args.part.now c.piece_size-n.result
+    c.piece_size-n.ensures.0 h.0 c.put_bytes.ensures c.put_zeros.ensures

@@ -12,9 +12,7 @@ pub loop-i-init : goal.loop-i-init
 loop-i-init c = (omega arith, c.none_whole-good.ensures)
 
 pub loop-i-preserved : goal.loop-i-preserved
-loop-i-preserved c = let l = c in
-    (omega arith, each_turn _ l.loop-i.i l.loop-i.invariant.1 (ap not c.is_bad.ensures))
+loop-i-preserved c = (omega arith, each_turn _ c.loop-i.i c.loop-i.invariant.1 (ap not c.is_bad.ensures))
 
 pub returns : goal.returns
-returns c = let l = c in
-    each_end _ l.loop-i.i l.args.reach (omega arith) (omega arith) l.loop-i.invariant.1
+returns c = each_end _ c.loop-i.i c.args.reach (omega arith) (omega arith) c.loop-i.invariant.1

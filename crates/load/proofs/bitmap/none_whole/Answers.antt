@@ -12,9 +12,7 @@ pub loop-i-init : goal.loop-i-init
 loop-i-init c = (omega arith, each_start _)
 
 pub loop-i-preserved : goal.loop-i-preserved
-loop-i-preserved c = let l = c in
-    (omega arith, none_byte l.args.bitmap.now l.loop-i.i l.loop-i.invariant.1 c.none_of_eight-good.ensures)
+loop-i-preserved c = (omega arith, none_byte c.args.bitmap.now c.loop-i.i c.loop-i.invariant.1 c.none_of_eight-good.ensures)
 
 pub returns : goal.returns
-returns c = let l = c in
-    each_end _ (8 * l.loop-i.i) (8 * l.args.n) (omega arith) (omega arith) l.loop-i.invariant.1
+returns c = each_end _ (8 * c.loop-i.i) (8 * c.args.n) (omega arith) (omega arith) c.loop-i.invariant.1

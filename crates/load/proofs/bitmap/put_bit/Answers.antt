@@ -6,5 +6,6 @@ use borrow.Author.Rules.{rules}
 use Rattle.load.proofs.bitmap.put_bit.Goals as goal
 
 pub returns : goal.returns
-returns c = let a = c.args in
+returns c =
+    let a = c.args in
     ap (set a.bitmap.now (a.i / 8)) c.with_bit.ensures

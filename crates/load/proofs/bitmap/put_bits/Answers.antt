@@ -6,17 +6,15 @@ use Rattle.load.proofs.BitmapLaws.{then_bitmap}
 use Rattle.load.proofs.bitmap.put_bits.Goals as goal
 
 pub returns : goal.returns
-returns c = let c3 = c in
-    let c2 = c3 in
-    let c1 = c2 in
-    let a = c1.args in
+returns c =
+    let a = c.args in
     let bitmap = a.bitmap.now in
     let first : ℕ = (a.next + 7) / 8 in
     let before : ℕ = 8 * first - a.next in
     let many : ℕ = (a.n - before) / 8 in
     then_bitmap bitmap a.next (before + 8 * many) (a.n - before - 8 * many) (8 * (first + many)) a.n a.bad
-    (then_bitmap bitmap a.next before (8 * many) (8 * first) (before + 8 * many) a.bad c1.put_each-2.ensures c2.put_whole.ensures
+    (then_bitmap bitmap a.next before (8 * many) (8 * first) (before + 8 * many) a.bad c.put_each-2.ensures c.put_whole.ensures
     (omega arith) (omega arith))
-    c3.put_each-3.ensures
+    c.put_each-3.ensures
     (omega arith)
     (omega arith)

@@ -15,17 +15,16 @@ loop-i-init c = (omega arith, refl, refl)
 
 pub loop-i-preserved : goal.loop-i-preserved
 unfolding bitmap_after
-loop-i-preserved c = let m = c in
-    let l = m in
-    let a = l.args in
-    let e = m.put_bit.ensures in (
+loop-i-preserved c =
+    let a = c.args in
+    let e = c.put_bit.ensures in (
       omega arith,
-      rw add-one (e ∙ ap (λ (x : List ℕ). with_bad x (a.next + l.loop-i.i) a.bad) l.loop-i.invariant.1),
-      ap length e ∙ length-set l.loop-i.bitmap _ _ ∙ l.loop-i.invariant.2,
+      rw add-one (e ∙ ap (λ (x : List ℕ). with_bad x (a.next + c.loop-i.i) a.bad) c.loop-i.invariant.1),
+      ap length e ∙ length-set c.loop-i.bitmap _ _ ∙ c.loop-i.invariant.2,
     )
 
 pub returns : goal.returns
-returns c = let l = c in
-    let a = l.args in
-    let e : l.loop-i.i ≡ a.n = omega arith in
-    l.loop-i.invariant.1 ∙ ap (λ (k : ℕ). bitmap_after a.bitmap.now a.next k a.bad) e
+returns c =
+    let a = c.args in
+    let e : c.loop-i.i ≡ a.n = omega arith in
+    c.loop-i.invariant.1 ∙ ap (λ (k : ℕ). bitmap_after a.bitmap.now a.next k a.bad) e

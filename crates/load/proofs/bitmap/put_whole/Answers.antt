@@ -14,19 +14,18 @@ unfolding bitmap_after
 loop-i-init c = (omega arith, refl, refl)
 
 pub loop-i-preserved : goal.loop-i-preserved
-loop-i-preserved c = let m = c in
-    let l = m in
-    let a = l.args in
-    let i = l.loop-i.i in
-    let e = m.put_eight.ensures in (
+loop-i-preserved c =
+    let a = c.args in
+    let i = c.loop-i.i in
+    let e = c.put_eight.ensures in (
       omega arith,
-      then_bitmap a.bitmap.now (8 * a.first) (8 * i) 8 (8 * (a.first + i)) (8 * (i + 1)) a.bad l.loop-i.invariant.1 e
+      then_bitmap a.bitmap.now (8 * a.first) (8 * i) 8 (8 * (a.first + i)) (8 * (i + 1)) a.bad c.loop-i.invariant.1 e
           (omega arith) (omega arith),
-      ap length e ∙ length_bitmap l.loop-i.bitmap _ 8 a.bad ∙ l.loop-i.invariant.2,
+      ap length e ∙ length_bitmap c.loop-i.bitmap _ 8 a.bad ∙ c.loop-i.invariant.2,
     )
 
 pub returns : goal.returns
-returns c = let l = c in
-    let a = l.args in
-    let e : l.loop-i.i ≡ a.many = omega arith in
-    l.loop-i.invariant.1 ∙ ap (λ (k : ℕ). bitmap_after a.bitmap.now (8 * a.first) (8 * k) a.bad) e
+returns c =
+    let a = c.args in
+    let e : c.loop-i.i ≡ a.many = omega arith in
+    c.loop-i.invariant.1 ∙ ap (λ (k : ℕ). bitmap_after a.bitmap.now (8 * a.first) (8 * k) a.bad) e

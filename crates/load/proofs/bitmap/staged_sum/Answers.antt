@@ -9,8 +9,7 @@ pub slice_bounds-long_sum-end : goal.slice_bounds-long_sum-end
 slice_bounds-long_sum-end c = sym (length-take-le _ _ (omega arith))
 
 pub long_sum-requires : goal.long_sum-requires
-long_sum-requires c = let s = c in
-    omega (arith, length-take-le s.args.reach s.args.staging.now (omega arith))
+long_sum-requires c = omega (arith, length-take-le c.args.reach c.args.staging.now (omega arith))
 
 pub returns : goal.returns
 returns c = c.long_sum.ensures.0

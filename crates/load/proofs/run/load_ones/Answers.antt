@@ -15,20 +15,18 @@ unfolding packed_words
 loop-k-init c = (omega arith, put_nil _ _, refl)
 
 pub loop-k-preserved : goal.loop-k-preserved
-loop-k-preserved c = let p = c in
-    let v = p in
-    let l = v in
-    let a = l.args in
-    let k = l.loop-k.k in
-    let e = packed_one_byte a.bytes.now k v.wide8.result (omega arith) v.wide8.ensures.0 (omega arith) in (
+loop-k-preserved c =
+    let a = c.args in
+    let k = c.loop-k.k in
+    let e = packed_one_byte a.bytes.now k c.wide8.result (omega arith) c.wide8.ensures.0 (omega arith) in (
       omega arith,
-      word_more a.tables.now a.at 1 a.bytes.now k (omega arith) l.loop-k.invariant.1
-          (p.put_u24.ensures ∙ ap (put l.loop-k.tables (a.at + 3 * k)) e) (omega arith),
+      word_more a.tables.now a.at 1 a.bytes.now k (omega arith) c.loop-k.invariant.1
+          (c.put_u24.ensures ∙ ap (put c.loop-k.tables (a.at + 3 * k)) e) (omega arith),
       omega arith,
     )
 
 pub returns : goal.returns
-returns c = let l = c in
-    let a = l.args in
-    let e : l.loop-k.k ≡ a.n = omega arith in
-    l.loop-k.invariant.1 ∙ ap (λ (k : ℕ). put a.tables.now a.at (packed_words 1 a.bytes.now k)) e
+returns c =
+    let a = c.args in
+    let e : c.loop-k.k ≡ a.n = omega arith in
+    c.loop-k.invariant.1 ∙ ap (λ (k : ℕ). put a.tables.now a.at (packed_words 1 a.bytes.now k)) e

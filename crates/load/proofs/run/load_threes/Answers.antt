@@ -12,10 +12,11 @@ pub slice_bounds-put_bytes-end : goal.slice_bounds-put_bytes-end
 slice_bounds-put_bytes-end c = sym (length-take-le _ _ (omega arith))
 
 pub put_bytes-requires : goal.put_bytes-requires
-put_bytes-requires c = let a = c.args in
+put_bytes-requires c =
+    let a = c.args in
     omega (arith, length-take-le (3 * a.n) a.bytes.now (omega arith))
 
 pub returns : goal.returns
-returns c = let p = c in
-    let a = p.args in
-    p.put_bytes.ensures ∙ ap (put a.tables.now a.at) (packed_threes a.bytes.now a.n (omega arith))
+returns c =
+    let a = c.args in
+    c.put_bytes.ensures ∙ ap (put a.tables.now a.at) (packed_threes a.bytes.now a.n (omega arith))

@@ -11,13 +11,12 @@ use borrow.Author.Rules.{rules}
 use Rattle.load.proofs.run.load_word.Goals as goal
 
 pub returns : goal.returns
-returns c = let q = c in
-    let m = q in
-    let s = m.args in
+returns c =
+    let s = c.args in
     let staged = s.staging.now in
     let w = s.width in
     let f : ℕ = w * s.k in
-    let e : f + m.smaller.result - f ≡ min w (s.n - f) = omega (arith, m.smaller.ensures) in
-    q.put_packed.ensures
+    let e : f + c.smaller.result - f ≡ min w (s.n - f) = omega (arith, c.smaller.ensures) in
+    c.put_packed.ensures
     ∙ ap (λ (b : List ℕ). put s.tables.now (s.at + 3 * s.k) (zeros (3 - w) ++ padded w b))
     (ap (λ (n : ℕ). take n (drop f staged)) e ∙ sym (part_of_reach staged w f s.n (omega arith) (omega arith)))

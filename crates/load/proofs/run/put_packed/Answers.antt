@@ -12,10 +12,8 @@ use Rattle.load.proofs.run.put_packed.Goals as goal
 
 pub returns : goal.returns
 unfolding padded
-returns c = let c3 = c in
-    let c2 = c3 in
-    let c1 = c2 in
-    let s = c1.args in
+returns c =
+    let s = c.args in
     let xs = s.tables.now in
     let b = s.bytes.now in
     let from : ℕ = s.at + (3 - s.width) in
@@ -24,10 +22,10 @@ returns c = let c3 = c in
     let front : List ℕ = zeros (3 - s.width) in
     let lf : length front ≡ 3 - s.width = length-replicate {A = ℕ} (3 - s.width) 0 in
     let lb : length (front ++ b) ≡ length front + length b = length-append front b in
-    let e = c1.put_zeros.ensures ∙ ap (λ (m : ℕ). put xs s.at (zeros m)) k in
+    let e = c.put_zeros.ensures ∙ ap (λ (m : ℕ). put xs s.at (zeros m)) k in
     then xs s.at (front ++ b) (zeros (s.width - length b)) (from + length b)
-    (then xs s.at front b from e c2.put_bytes.ensures (omega arith) (omega arith))
-    (c3.put_zeros-2.ensures ∙ ap (λ (m : ℕ). put c2.put_bytes.new.part (from + length b) (zeros m)) n)
+    (then xs s.at front b from e c.put_bytes.ensures (omega arith) (omega arith))
+    (c.put_zeros-2.ensures ∙ ap (λ (m : ℕ). put c.put_bytes.new.part (from + length b) (zeros m)) n)
     (omega arith)
     (omega arith)
     ∙ ap (put xs s.at) (append_assoc front b (zeros (s.width - length b)))

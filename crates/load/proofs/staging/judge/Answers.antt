@@ -2,7 +2,6 @@
 use mathlib.Core.Path.{◌≡◌, sym, ◌∙◌}
 use mathlib.Core.Bool.{true}
 use borrow.Author.Rules.{rules}
-
 use Rattle.load.specs.Staging.{formed, package_number}
 use Rattle.load.proofs.staging.judge.Goals.{Else-not-is_formed}
 use Rattle.load.proofs.staging.judge.Goals as goal
@@ -25,13 +24,11 @@ computed_sum-requires c = well (goal.at.computed_sum-requires c).Else-not-is_for
 
 pub returns : goal.returns
 unfolding package_number
-returns c = let k = c in
-    let b = k in
-    simp (
-      c.unless-2.ensures,
-      c.unless.ensures,
-      k.computed_sum.ensures,
-      k.received_sum.ensures,
-      b.payload_bytes.ensures.0,
-      well (goal.at.returns c).Else-not-is_formed,
-    )
+returns c = simp (
+  c.unless-2.ensures,
+  c.unless.ensures,
+  c.computed_sum.ensures,
+  c.received_sum.ensures,
+  c.payload_bytes.ensures.0,
+  well (goal.at.returns c).Else-not-is_formed,
+)

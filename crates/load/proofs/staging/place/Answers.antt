@@ -9,25 +9,19 @@ use borrow.Author.Rules.{rules}
 use Rattle.load.proofs.staging.place.Goals as goal
 
 pub payload-requires : goal.payload-requires
-payload-requires c = let s = c in
-    placeable_formed s.args.p.now s.args.a.next s.requires.next_value
+payload-requires c = placeable_formed c.args.p.now c.args.a.next c.requires.next_value
 
 pub put_bytes-requires : goal.put_bytes-requires
-put_bytes-requires c = let s = c in
-    omega (arith, placeable_fits s.args.p.now s.args.a.next s.requires.next_value)
+put_bytes-requires c = omega (arith, placeable_fits c.args.p.now c.args.a.next c.requires.next_value)
 
 pub payload_bytes-requires : goal.payload_bytes-requires
-payload_bytes-requires c = let s = c in
-    placeable_formed s.args.p.now s.args.a.next s.requires.next_value
+payload_bytes-requires c = placeable_formed c.args.p.now c.args.a.next c.requires.next_value
 
 pub overflow_add-end : goal.overflow_add-end
-overflow_add-end c = let k = c in
-    let s = k in
-    omega (arith, placeable_fits s.args.p.now s.args.a.next s.requires.next_value)
+overflow_add-end c = omega (arith, placeable_fits c.args.p.now c.args.a.next c.requires.next_value)
 
 pub returns : goal.returns
 unfolding staging_after
-returns c = let b = c in
-    let q = b in
-    let s = q.args in
-    let e = b.payload_bytes.ensures.0 in record { staging = q.put_bytes.ensures ∙ ap (put s.staging.now s.a.next) q.payload.ensures.0; addresses = (λ i. record { next = s.a.next + e i; reach = (c.larger.ensures ∙ ap (λ (n : ℕ). max s.a.reach (s.a.next + n)) e) i }) }
+returns c =
+    let s = c.args in
+    let e = c.payload_bytes.ensures.0 in record { staging = c.put_bytes.ensures ∙ ap (put s.staging.now s.a.next) c.payload.ensures.0; addresses = (λ i. record { next = s.a.next + e i; reach = (c.larger.ensures ∙ ap (λ (n : ℕ). max s.a.reach (s.a.next + n)) e) i }) }

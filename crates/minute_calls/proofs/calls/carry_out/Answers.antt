@@ -13,7 +13,8 @@ close-requires c = c.requires.2 c.in-4.is
 
 pub returns-in-2 : goal.returns-in-2
 unfolding kind_done
-returns-in-2 c = let k = c.in-2.is in record { answer = rw k c.reading.ensures; tables = rw k; slots = rw k }
+returns-in-2 c =
+    let k = c.in-2.is in record { answer = rw k c.reading.ensures; tables = rw k; slots = rw k }
 
 pub returns-in-4 : goal.returns-in-4
 unfolding kind_done

@@ -14,22 +14,22 @@ pub loop-j-init : goal.loop-j-init
 loop-j-init c = (omega arith, c.requires.0, table_none _, λ k h. refl)
 
 pub overflow_add-columns : goal.overflow_add-columns
-overflow_add-columns c = let l = c in
-    let j = l.loop-j.j in
-    omega (arith, c.wide.ensures, l.loop-j.invariant.3 j (omega arith), l.requires.1 j)
+overflow_add-columns c =
+    let j = c.loop-j.j in
+    omega (arith, c.wide.ensures, c.loop-j.invariant.3 j (omega arith), c.requires.1 j)
 
 pub loop-j-preserved : goal.loop-j-preserved
-loop-j-preserved c = let l = c in
-    let j = l.loop-j.j in
-    let v = l.loop-j.invariant in (
+loop-j-preserved c =
+    let j = c.loop-j.j in
+    let v = c.loop-j.invariant in (
       omega arith,
       simp length-set v.1,
-      table_turn _ l.loop-j.columns j (omega arith) v.2 (omega (arith, c.wide.ensures, v.3 j (omega arith))),
-      λ k h. get_or-set_other l.loop-j.columns j k _ 0 (λ e. omega arith) ∙ v.3 k (omega arith),
+      table_turn _ c.loop-j.columns j (omega arith) v.2 (omega (arith, c.wide.ensures, v.3 j (omega arith))),
+      λ k h. get_or-set_other c.loop-j.columns j k _ 0 (λ e. omega arith) ∙ v.3 k (omega arith),
     )
 
 pub returns : goal.returns
 unfolding added_row
-returns c = let l = c in
-    let v = l.loop-j.invariant in
-    table_end _ l.loop-j.columns l.loop-j.j 48 (omega arith) (omega arith) v.1 v.2
+returns c =
+    let v = c.loop-j.invariant in
+    table_end _ c.loop-j.columns c.loop-j.j 48 (omega arith) (omega arith) v.1 v.2

@@ -30,9 +30,9 @@ pub loop-k-init : goal.loop-k-init
 loop-k-init c = (omega arith, omega arith, sym (no_words _ 0))
 
 pub loop-k-preserved : goal.loop-k-preserved
-loop-k-preserved c = let l = c in
-    let v = l.loop-k.invariant in
-    let more = block_more l.args.tables.now l.loop-k.k in (
+loop-k-preserved c =
+    let v = c.loop-k.invariant in
+    let more = block_more c.args.tables.now c.loop-k.k in (
       omega arith,
       omega (arith, v.1, c.block_sum-sum.ensures.1),
       omega (arith, v.2, c.block_sum-sum.ensures.0, more),
@@ -40,14 +40,12 @@ loop-k-preserved c = let l = c in
 
 pub returns : goal.returns
 unfolding table_sum
-returns c = let w₂ = c in
-    let w₁ = w₂ in
-    let l = w₁ in
-    let tables = l.args.tables.now in
-    let n : 2624 * l.loop-k.k ≡ 20992 = omega arith in
-    let e = l.loop-k.invariant.2 ∙ ap (word_sum tables 0) n in
-    let ea = w₁.wide32-sum.ensures ∙ w₁.word.ensures.0 in
-    let eb = w₂.wide32-sum-2.ensures ∙ w₂.word-2.ensures.0 in
+returns c =
+    let tables = c.args.tables.now in
+    let n : 2624 * c.loop-k.k ≡ 20992 = omega arith in
+    let e = c.loop-k.invariant.2 ∙ ap (word_sum tables 0) n in
+    let ea = c.wide32-sum.ensures ∙ c.word.ensures.0 in
+    let eb = c.wide32-sum-2.ensures ∙ c.word-2.ensures.0 in
     let ec = c.wide32-sum-3.ensures ∙ c.word-3.ensures.0 in (
       (λ i. (e i + ea i + eb i + ec i) % 16777216)
           ∙ ap (λ (n : ℕ). n % 16777216) (sym (words_by_address tables table_words ∙ three-more tables)),

@@ -16,19 +16,14 @@ use Rattle.packet.proofs.write.write_beacon.Goals as goal
 
 pub returns : goal.returns
 unfolding beacon_packet
-returns c = let c5 = c in
-    let c4 = c5 in
-    let c3 = c4 in
-    let c2 = c3 in
-    let c1 = c2 in
-    let s = c1 in
-    let x = c1.write_header.new.part in
-    let beacons = s.args.beacons.now in
+returns c =
+    let x = c.write_header.new.part in
+    let beacons = c.args.beacons.now in
     let B : List ℕ = codes second_mark beacons in
-    let lb : length B ≡ code_bytes * beacon_count = omega (arith, length_codes second_mark beacons, s.requires.part_len.1) in
-    packet_written s.args.part.now _ s.args.stamp (B ++ zeros beacon_unused) s.requires.part_len.0
-    (length_beacon_body second_mark beacons s.requires.part_len.1)
-    c1.write_header.ensures
-    (then x body_at B (zeros beacon_unused) beacon_end c2.write_codes.ensures c3.put_zeros.ensures (omega arith) (omega arith))
-    c4.write_trailer.ensures c5.write_sum.ensures
-    ∙ ap (λ (m : ℕ). packet_of beacon_application s.args.stamp (beacon_body m beacons)) (sym s.requires.each_below.1)
+    let lb : length B ≡ code_bytes * beacon_count = omega (arith, length_codes second_mark beacons, c.requires.part_len.1) in
+    packet_written c.args.part.now _ c.args.stamp (B ++ zeros beacon_unused) c.requires.part_len.0
+    (length_beacon_body second_mark beacons c.requires.part_len.1)
+    c.write_header.ensures
+    (then x body_at B (zeros beacon_unused) beacon_end c.write_codes.ensures c.put_zeros.ensures (omega arith) (omega arith))
+    c.write_trailer.ensures c.write_sum.ensures
+    ∙ ap (λ (m : ℕ). packet_of beacon_application c.args.stamp (beacon_body m beacons)) (sym c.requires.each_below.1)

@@ -19,18 +19,18 @@ unfolding codes runs
 loop-i-init c = (omega arith, put_nil _ _, refl)
 
 pub encode-requires : goal.encode-requires
-encode-requires c = let l = c in l.requires.each_below l.loop-i.i
+encode-requires c = c.requires.each_below c.loop-i.i
 
 pub loop-i-preserved : goal.loop-i-preserved
-loop-i-preserved c = let l = c in
-    let a = l.args in
+loop-i-preserved c =
+    let a = c.args in
     let xs = a.part.now in
     let ns = a.counts.now in
-    let i = l.loop-i.i in
+    let i = c.loop-i.i in
     let lc : length (codes second_mark (take i ns)) ≡ 2 * i = length_codes_take second_mark ns i (omega arith) in
     let e = c.encode.ensures in (
       omega arith,
-      then xs a.at (codes second_mark (take i ns)) (be16 _) (a.at + 2 * i) l.loop-i.invariant.1 c.put_u16.ensures
+      then xs a.at (codes second_mark (take i ns)) (be16 _) (a.at + 2 * i) c.loop-i.invariant.1 c.put_u16.ensures
           (omega arith) (omega arith)
           ∙ ap (λ (n : ℕ). put xs a.at (codes second_mark (take i ns) ++ be16 n)) e
           ∙ ap (put xs a.at) (sym (codes_take second_mark ns i (omega arith))),
@@ -38,6 +38,6 @@ loop-i-preserved c = let l = c in
     )
 
 pub returns : goal.returns
-returns c = let l = c in
-    let a = l.args in
-    l.loop-i.invariant.1 ∙ ap (λ (v : List ℕ). put a.part.now a.at (codes second_mark v)) (take_all l.loop-i.i a.counts.now (omega arith))
+returns c =
+    let a = c.args in
+    c.loop-i.invariant.1 ∙ ap (λ (v : List ℕ). put a.part.now a.at (codes second_mark v)) (take_all c.loop-i.i a.counts.now (omega arith))

@@ -15,28 +15,22 @@ use Rattle.packet.proofs.write.write_rate.Goals as goal
 
 pub returns : goal.returns
 unfolding rate_packet
-returns c = let c6 = c in
-    let c5 = c6 in
-    let c4 = c5 in
-    let c3 = c4 in
-    let c2 = c3 in
-    let c1 = c2 in
-    let s = c1 in
-    let x = c1.write_header.new.part in
-    let totals = s.args.totals.now in
-    let boxes = s.args.boxes.now in
+returns c =
+    let x = c.write_header.new.part in
+    let totals = c.args.totals.now in
+    let boxes = c.args.boxes.now in
     let T : List ℕ = codes second_mark totals in
     let B : List ℕ = codes second_mark boxes in
-    let S : List ℕ = settings_bytes s.args.settings s.args.sum in
-    let h = s.requires.totals_len in
+    let S : List ℕ = settings_bytes c.args.settings c.args.sum in
+    let h = c.requires.totals_len in
     let lt : length T ≡ code_bytes * total_count = omega (arith, length_codes second_mark totals, h.0) in
     let l : length (T ++ B) ≡ code_bytes * rate_count = omega (arith, length-append T B, length_codes second_mark boxes, h.1) in
-    packet_written s.args.part.now _ s.args.stamp (T ++ B ++ S) s.requires.part_len
-    (length_rate_body second_mark totals boxes s.args.settings s.args.sum h.0 h.1)
-    c1.write_header.ensures
+    packet_written c.args.part.now _ c.args.stamp (T ++ B ++ S) c.requires.part_len
+    (length_rate_body second_mark totals boxes c.args.settings c.args.sum h.0 h.1)
+    c.write_header.ensures
     (then x body_at (T ++ B) S gap_at
-    (then x body_at T B boxes_at c2.write_codes.ensures c3.write_codes-2.ensures (omega arith) (omega arith))
-    c4.write_settings.ensures (omega arith) (omega arith))
-    c5.write_trailer.ensures c6.write_sum.ensures
-    ∙ ap (λ (m : ℕ). packet_of rate_application s.args.stamp (rate_body m totals boxes s.args.settings s.args.sum))
-    (sym s.requires.mark_value.0)
+    (then x body_at T B boxes_at c.write_codes.ensures c.write_codes-2.ensures (omega arith) (omega arith))
+    c.write_settings.ensures (omega arith) (omega arith))
+    c.write_trailer.ensures c.write_sum.ensures
+    ∙ ap (λ (m : ℕ). packet_of rate_application c.args.stamp (rate_body m totals boxes c.args.settings c.args.sum))
+    (sym c.requires.mark_value.0)

@@ -9,12 +9,8 @@ use Rattle.packet.proofs.write.write_samples.Goals as goal
 
 pub returns : goal.returns
 unfolding sample_packet
-returns c = let c4 = c in
-    let c3 = c4 in
-    let c2 = c3 in
-    let c1 = c2 in
-    let s = c1 in
-    let records = s.args.records.now in
-    packet_written s.args.part.now _ s.args.stamp (words records) s.requires.0 (length_sample_body records s.requires.1)
-    c1.write_header.ensures c2.put_words.ensures c3.write_trailer.ensures c4.write_sum.ensures
-    ∙ ap (λ (a : ℕ). packet_of a s.args.stamp (words records)) c1.of_sample.ensures.0
+returns c =
+    let records = c.args.records.now in
+    packet_written c.args.part.now _ c.args.stamp (words records) c.requires.0 (length_sample_body records c.requires.1)
+    c.write_header.ensures c.put_words.ensures c.write_trailer.ensures c.write_sum.ensures
+    ∙ ap (λ (a : ℕ). packet_of a c.args.stamp (words records)) c.of_sample.ensures.0

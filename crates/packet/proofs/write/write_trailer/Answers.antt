@@ -8,9 +8,7 @@ use Rattle.packet.proofs.write.write_trailer.Goals as goal
 
 pub returns : goal.returns
 unfolding trailer
-returns c = let c3 = c in
-    let c2 = c3 in
-    let c1 = c2 in
-    let h = c1.requires in
-    then _ _ _ _ _ (then _ _ _ _ _ c1.put_u16.ensures c2.put_u8.ensures refl (omega arith))
-    c3.put_u8-2.ensures refl (omega arith)
+returns c =
+    let h = c.requires in
+    then _ _ _ _ _ (then _ _ _ _ _ c.put_u16.ensures c.put_u8.ensures refl (omega arith))
+    c.put_u8-2.ensures refl (omega arith)

@@ -11,9 +11,9 @@ use Rattle.rate_code.specs.Rate.{count_limit}
 use Rattle.packet_cases.proofs.values.fill_counts.Goals as goal
 
 pub loop-i-preserved : goal.loop-i-preserved
-loop-i-preserved c = let l = c in (
+loop-i-preserved c = (
   omega arith,
   omega arith,
-  set_below count_limit l.loop-i.counts l.loop-i.i _ l.loop-i.invariant.2 (omega (arith, shr_le c.next-x.result (l.loop-i.i % 24))),
+  set_below count_limit c.loop-i.counts c.loop-i.i _ c.loop-i.invariant.2 (omega (arith, shr_le c.next-x.result (c.loop-i.i % 24))),
   simp length-set (omega arith),
 )

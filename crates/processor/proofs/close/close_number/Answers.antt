@@ -5,6 +5,4 @@ use Rattle.processor.proofs.close.close_number.Goals as goal
 
 pub returns : goal.returns
 unfolding close_number
-returns c = let b = c in
-    let s = b in
-    simp (c.unless.ensures, b.span_bytes.ensures, s.close_span.ensures, s.endable-endable.ensures)
+returns c = simp (c.unless.ensures, c.span_bytes.ensures, c.close_span.ensures, c.endable-endable.ensures)

@@ -15,14 +15,13 @@ first_is : (u : After-unless-number)
     u.unless-number.result
     ≡ cond (line_sound a.state a.line.now a.staging.now a.bitmap.now (length a.echo.now)) (cond (bytes_ok a.line.now) 0 4) 1
 first_is u =
-    let b = u in
-    simp (u.unless-number.ensures, u.unless-other.ensures, b.bytes_ok-bytes.ensures, b.within_limits-limits.ensures)
+    simp (u.unless-number.ensures, u.unless-other.ensures, u.bytes_ok-bytes.ensures, u.within_limits-limits.ensures)
 
 pub returns-then-number-ne-CARRIED_OUT : goal.returns-then-number-ne-CARRIED_OUT
 unfolding line_done
-returns-then-number-ne-CARRIED_OUT c = let u = c in
-    let a = u.args in
-    let k = line_early a.state a.line.now a.staging.now a.bitmap.now (length a.echo.now) u.unless-number.result (first_is (goal.at.returns-then-number-ne-CARRIED_OUT c).After-unless-number) c.if-number-ne-CARRIED_OUT.true in
+returns-then-number-ne-CARRIED_OUT c =
+    let a = c.args in
+    let k = line_early a.state a.line.now a.staging.now a.bitmap.now (length a.echo.now) c.unless-number.result (first_is (goal.at.returns-then-number-ne-CARRIED_OUT c).After-unless-number) c.if-number-ne-CARRIED_OUT.true in
     let n = ne_eqb _ _ c.if-number-ne-CARRIED_OUT.true in record { answer = simp (k.0, n); echo = simp (k.0, n, k.1) }
 
 pub take_line-requires : goal.take_line-requires

@@ -15,6 +15,6 @@ take_reading-after-requires c = reading_taken c.args.state (sym c.reading_number
 
 pub returns : goal.returns
 unfolding reading_done
-returns c = let l = c in
-    let e = sym l.reading_number-number.ensures ∙ l.if-number-ne-CARRIED_OUT.false in
+returns c =
+    let e = sym c.reading_number-number.ensures ∙ c.if-number-ne-CARRIED_OUT.false in
     simp (e, c.take_reading-after.ensures)

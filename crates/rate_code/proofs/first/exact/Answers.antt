@@ -8,9 +8,9 @@ use Rattle.rate_code.proofs.Codes.{code_valid_lem}
 use Rattle.rate_code.proofs.first.exact.Goals as goal
 
 pub least_count-requires : goal.least_count-requires
-least_count-requires c = let s = c in ap code_valid c.encode.ensures ∙ code_valid_lem s.args.n s.requires
+least_count-requires c = ap code_valid c.encode.ensures ∙ code_valid_lem c.args.n c.requires
 
 pub returns : goal.returns
-returns c = let e = c in
-    let n = e.args.n in
-    ap (λ (m : ℕ). eqb m n) (c.least_count.ensures ∙ ap least_count e.encode.ensures)
+returns c =
+    let n = c.args.n in
+    ap (λ (m : ℕ). eqb m n) (c.least_count.ensures ∙ ap least_count c.encode.ensures)

@@ -25,10 +25,13 @@ pub overflow_sub-result : goal.overflow_sub-result
 overflow_sub-result c = (from_4096 (goal.at.overflow_sub-result c).Else-n-lt4096).least
 
 pub overflow_add-result : goal.overflow_add-result
-overflow_add-result c = let s = from_4096 (goal.at.overflow_add-result c).Else-n-lt4096 in omega (arith, s.most, low _ _ s, high _ _ s)
+overflow_add-result c =
+    let s = from_4096 (goal.at.overflow_add-result c).Else-n-lt4096 in omega (arith, s.most, low _ _ s, high _ _ s)
 
 pub overflow_sub-result-2 : goal.overflow_sub-result-2
-overflow_sub-result-2 c = let s = from_4096 (goal.at.overflow_sub-result-2 c).Else-n-lt4096 in omega (arith, s.most, low _ _ s, high _ _ s)
+overflow_sub-result-2 c =
+    let s = from_4096 (goal.at.overflow_sub-result-2 c).Else-n-lt4096 in omega (arith, s.most, low _ _ s, high _ _ s)
 
 pub overflow_cast-result-2 : goal.overflow_cast-result-2
-overflow_cast-result-2 c = let s = from_4096 (goal.at.overflow_cast-result-2 c).Else-n-lt4096 in omega (arith, s.most, low _ _ s, high _ _ s)
+overflow_cast-result-2 c =
+    let s = from_4096 (goal.at.overflow_cast-result-2 c).Else-n-lt4096 in omega (arith, s.most, low _ _ s, high _ _ s)

@@ -13,7 +13,8 @@ returns-then-c-lt4096 c = sym (least_low c.args.c c.if-c-lt4096.true)
 
 pub returns : goal.returns
 unfolding second_valid
-returns c = let x = c.args.c in
+returns c =
+    let x = c.args.c in
     let e = least_high x c.if-c-lt4096.false in
     let b = second_least_below x (ltb-true x 0xD000 c.requires) in
     mod-eq_of_lt (omega (arith, e, b)) ∙ sym e

@@ -14,14 +14,13 @@ pub loop-i-init : goal.loop-i-init
 loop-i-init c = (omega arith, refl)
 
 pub loop-i-preserved : goal.loop-i-preserved
-loop-i-preserved c = let l = c in
-    let xs = l.args.slots.now in
-    let i = l.loop-i.i in (
+loop-i-preserved c =
+    let xs = c.args.slots.now in
+    let i = c.loop-i.i in (
       omega arith,
-      ap (λ b. (l.loop-i.ok && b) && all record_good (drop (i + 1) xs)) c.record_good-ok.ensures
-          ∙ scan_step record_good xs 0 l.loop-i.ok i (omega arith) l.loop-i.invariant.1,
+      ap (λ b. (c.loop-i.ok && b) && all record_good (drop (i + 1) xs)) c.record_good-ok.ensures
+          ∙ scan_step record_good xs 0 c.loop-i.ok i (omega arith) c.loop-i.invariant.1,
     )
 
 pub returns : goal.returns
-returns c = let l = c in
-    scan_end record_good l.args.slots.now 0 l.loop-i.ok l.loop-i.i (omega arith) l.loop-i.invariant.1
+returns c = scan_end record_good c.args.slots.now 0 c.loop-i.ok c.loop-i.i (omega arith) c.loop-i.invariant.1

@@ -14,14 +14,14 @@ pub loop-i-init : goal.loop-i-init
 loop-i-init c = (omega arith, refl, refl)
 
 pub loop-i-preserved : goal.loop-i-preserved
-loop-i-preserved c = let l = c in
-    let i = l.loop-i.i in (
+loop-i-preserved c =
+    let i = c.loop-i.i in (
       omega arith,
       search rules,
-      rw (add-one, take-suc-set l.loop-i.slots i 0 (omega arith), l.loop-i.invariant.2) (zeros_more i ∙ ap zeros (add-one i)),
+      rw (add-one, take-suc-set c.loop-i.slots i 0 (omega arith), c.loop-i.invariant.2) (zeros_more i ∙ ap zeros (add-one i)),
     )
 
 pub returns : goal.returns
-returns c = let l = c in
-    let n : l.loop-i.i ≡ length l.args.slots.now = omega arith in
-    sym (take_all l.loop-i.i l.loop-i.slots (omega arith)) ∙ l.loop-i.invariant.2 ∙ ap zeros n
+returns c =
+    let n : c.loop-i.i ≡ length c.args.slots.now = omega arith in
+    sym (take_all c.loop-i.i c.loop-i.slots (omega arith)) ∙ c.loop-i.invariant.2 ∙ ap zeros n

@@ -20,8 +20,7 @@ loop-i-init c = (omega arith, omega arith, omega arith)
 
 pub returns : goal.returns
 unfolding filled
-returns c = let l = c in
-    omega (arith, count_end (ltb 0) l.args.slots.now 0 l.loop-i.i (omega arith))
+returns c = omega (arith, count_end (ltb 0) c.args.slots.now 0 c.loop-i.i (omega arith))
 
 pub loop-i-preserved : goal.loop-i-preserved
 loop-i-preserved c =
@@ -30,8 +29,8 @@ loop-i-preserved c =
     let st = count_step (nat_lt 0) xs 0 i (omega arith) in
     let cnt : c.if-slots-i-gt0.count ≡ c.loop-i.count + cond (nat_lt 0 (get_or xs i 0)) 1 0 =
     elim c.if-slots-i-gt0.branch [
-      then-slots-i-gt0 w ↦ w.count-is ∙ rw (lt-ltb 0 _ w.if-slots-i-gt0.true)
-    | else-slots-i-gt0 w ↦ w.count-is ∙ rw (le-ltb 0 _ w.if-slots-i-gt0.false) (omega arith)
+      | then-slots-i-gt0 w ↦ w.count-is ∙ rw (lt-ltb 0 _ w.if-slots-i-gt0.true)
+      | else-slots-i-gt0 w ↦ w.count-is ∙ rw (le-ltb 0 _ w.if-slots-i-gt0.false) (omega arith)
     ] in (
       omega arith,
       elim c.if-slots-i-gt0.branch [ then-slots-i-gt0 w ↦ omega (arith, w.count-is) | else-slots-i-gt0 w ↦ omega (arith, w.count-is) ],

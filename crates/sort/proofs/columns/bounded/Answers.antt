@@ -9,9 +9,7 @@ pub overflow_cast-n : goal.overflow_cast-n
 overflow_cast-n c = cast_ok c.args.f c.ranges.f (is_pos c.args.f c.ranges.f c.if-f-lt0.false)
 
 pub returns-then-n-le127 : goal.returns-then-n-le127
-returns-then-n-le127 c = let s = c in
-    bounded_in s.args.f s.ranges.f (is_pos s.args.f s.ranges.f c.if-f-lt0.false) c.if-n-le127.true
+returns-then-n-le127 c = bounded_in c.args.f c.ranges.f (is_pos c.args.f c.ranges.f c.if-f-lt0.false) c.if-n-le127.true
 
 pub returns-else-n-le127 : goal.returns-else-n-le127
-returns-else-n-le127 c = let s = c in
-    bounded_out s.args.f s.ranges.f (is_pos s.args.f s.ranges.f c.if-f-lt0.false) c.if-n-le127.false
+returns-else-n-le127 c = bounded_out c.args.f c.ranges.f (is_pos c.args.f c.ranges.f c.if-f-lt0.false) c.if-n-le127.false

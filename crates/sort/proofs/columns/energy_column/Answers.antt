@@ -9,11 +9,11 @@ use borrow.Author.Rules.{rules}
 use Rattle.sort.proofs.columns.energy_column.Goals as goal
 
 pub returns : goal.returns
-returns c = let s = c in
+returns c =
     let f = c.floor_div in
     let m = c.difference in
     let e = to_z-of_z w32 m.result record { sfits = m.type_inv } ∙ m.ensures in
     to_z-of_z w32 f.result record { sfits = f.type_inv }
     ∙ f.ensures
     ∙ ap (λ (z : ℤ). floor_z z 4096) e
-    ∙ sym (energy_sub s.args.t s.args.ktof)
+    ∙ sym (energy_sub c.args.t c.args.ktof)

@@ -6,13 +6,11 @@ use Rattle.sort.proofs.columns.floor_div.Goals as goal
 
 negative : (c : Then-n-lt0) → Below c.args.n c.args.d
 negative c =
-    let s = c in
-    below s.args.n s.args.d s.ranges.n s.ranges.d (is_neg s.args.n s.ranges.n c.if-n-lt0.true) s.requires
+    below c.args.n c.args.d c.ranges.n c.ranges.d (is_neg c.args.n c.ranges.n c.if-n-lt0.true) c.requires
 
 other : (c : Else-n-lt0) → From0 c.args.n c.args.d
 other c =
-    let s = c in
-    from_0 s.args.n s.args.d s.ranges.n s.ranges.d (is_pos s.args.n s.ranges.n c.if-n-lt0.false) s.requires
+    from_0 c.args.n c.args.d c.ranges.n c.ranges.d (is_pos c.args.n c.ranges.n c.if-n-lt0.false) c.requires
 
 pub overflow_sub-result : goal.overflow_sub-result
 overflow_sub-result c = (negative (goal.at.overflow_sub-result c).Then-n-lt0).turned
@@ -21,7 +19,8 @@ pub nonzero_div-result : goal.nonzero_div-result
 nonzero_div-result c = (above_zero c.args.d c.requires, (negative (goal.at.nonzero_div-result c).Then-n-lt0).divided)
 
 pub overflow_sub-result-then-n-lt0 : goal.overflow_sub-result-then-n-lt0
-overflow_sub-result-then-n-lt0 c = let f = negative (goal.at.overflow_sub-result-then-n-lt0 c).Then-n-lt0 in search rules
+overflow_sub-result-then-n-lt0 c =
+    let f = negative (goal.at.overflow_sub-result-then-n-lt0 c).Then-n-lt0 in search rules
 
 pub nonzero_div-result-else-n-lt0 : goal.nonzero_div-result-else-n-lt0
 nonzero_div-result-else-n-lt0 c = (above_zero c.args.d c.requires, (other (goal.at.nonzero_div-result-else-n-lt0 c).Else-n-lt0).divided)

@@ -7,36 +7,26 @@ use borrow.Author.Rules.{rules}
 use Rattle.sort.proofs.sorting.event_words.Goals as goal
 
 pub word-flight-requires : goal.word-flight-requires
-word-flight-requires c = let s = c in omega (arith, in_range_lem s.args.e s.requires.e_value)
+word-flight-requires c = omega (arith, in_range_lem c.args.e c.requires.e_value)
 
 pub word-energy-requires : goal.word-energy-requires
-word-energy-requires c = let g = c in
-    let w = g in
-    let s = w in
-    omega (arith, in_range_lem s.args.e s.requires.e_value)
+word-energy-requires c = omega (arith, in_range_lem c.args.e c.requires.e_value)
 
 pub returns-then-gain : goal.returns-then-gain
 unfolding event_words
-returns-then-gain c = let g = c in
-    let w2 = g in
-    let w1 = w2 in
-    let e = sym g.gain.ensures ∙ g.if-gain.true in (
-      simp (e, c.word-k.ensures.0, c.word-energy.ensures.0, w2.word-ktof.ensures.0, w1.word-flight.ensures.0),
-      (c.word-energy.ensures.1, c.word-k.ensures.1, w1.word-flight.ensures.1, w2.word-ktof.ensures.1),
+returns-then-gain c =
+    let e = sym c.gain.ensures ∙ c.if-gain.true in (
+      simp (e, c.word-k.ensures.0, c.word-energy.ensures.0, c.word-ktof.ensures.0, c.word-flight.ensures.0),
+      (c.word-energy.ensures.1, c.word-k.ensures.1, c.word-flight.ensures.1, c.word-ktof.ensures.1),
     )
 
 pub word-energy-requires-2 : goal.word-energy-requires-2
-word-energy-requires-2 c = let g = c in
-    let w = g in
-    let s = w in
-    omega (arith, in_range_lem s.args.e s.requires.e_value)
+word-energy-requires-2 c = omega (arith, in_range_lem c.args.e c.requires.e_value)
 
 pub returns : goal.returns
 unfolding event_words
-returns c = let g = c in
-    let w2 = g in
-    let w1 = w2 in
-    let e = sym g.gain.ensures ∙ g.if-gain.false in (
-      simp (e, c.word-k-2.ensures.0, c.word-energy-2.ensures.0, w2.word-ktof.ensures.0, w1.word-flight.ensures.0),
-      (c.word-energy-2.ensures.1, c.word-k-2.ensures.1, w1.word-flight.ensures.1, w2.word-ktof.ensures.1),
+returns c =
+    let e = sym c.gain.ensures ∙ c.if-gain.false in (
+      simp (e, c.word-k-2.ensures.0, c.word-energy-2.ensures.0, c.word-ktof.ensures.0, c.word-flight.ensures.0),
+      (c.word-energy-2.ensures.1, c.word-k-2.ensures.1, c.word-flight.ensures.1, c.word-ktof.ensures.1),
     )

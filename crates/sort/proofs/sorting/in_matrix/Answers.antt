@@ -9,10 +9,9 @@ use Rattle.sort.proofs.sorting.in_matrix.Goals as goal
 
 pub returns : goal.returns
 unfolding in_matrix
-returns c = let n = c.energy_column-energy in
-    let b = c in
-    let m = b.mass_column-mass in
-    let s = b in
+returns c =
+    let n = c.energy_column-energy in
+    let m = c.mass_column-mass in
     let em = to_z-of_z w32 m.result record { sfits = m.type_inv } ∙ m.ensures in
     let en = to_z-of_z w32 n.result record { sfits = n.type_inv } ∙ n.ensures in
-    c.located.ensures ∙ (λ i. located s.args.gain (bounded (em i)) (bounded (en i)) s.args.matrix.now)
+    c.located.ensures ∙ (λ i. located c.args.gain (bounded (em i)) (bounded (en i)) c.args.matrix.now)

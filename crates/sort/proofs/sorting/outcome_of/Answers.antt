@@ -10,7 +10,4 @@ returns-then-discards c = simp (sym c.discards.ensures ∙ c.if-discards.true)
 
 pub returns : goal.returns
 unfolding outcome_of
-returns c = let w = c in
-    let g = w in
-    let e = g in
-    simp (c.in_matrix.ensures, sym e.discards.ensures ∙ e.if-discards.false, g.gain-gain.ensures, w.event_words-w.ensures.0)
+returns c = simp (c.in_matrix.ensures, sym c.discards.ensures ∙ c.if-discards.false, c.gain-gain.ensures, c.event_words-w.ensures.0)

@@ -13,11 +13,7 @@ pub loop-i-init : goal.loop-i-init
 loop-i-init c = (omega arith, refl)
 
 pub loop-i-preserved : goal.loop-i-preserved
-loop-i-preserved c = let l = c in
-    let s = l in
-    (omega arith, scan_step (at_most s.args.limit) s.args.a.now 0 l.loop-i.ok l.loop-i.i (omega arith) l.loop-i.invariant.1)
+loop-i-preserved c = (omega arith, scan_step (at_most c.args.limit) c.args.a.now 0 c.loop-i.ok c.loop-i.i (omega arith) c.loop-i.invariant.1)
 
 pub returns : goal.returns
-returns c = let l = c in
-    let s = l in
-    scan_end (at_most s.args.limit) s.args.a.now 0 l.loop-i.ok l.loop-i.i (omega arith) l.loop-i.invariant.1
+returns c = scan_end (at_most c.args.limit) c.args.a.now 0 c.loop-i.ok c.loop-i.i (omega arith) c.loop-i.invariant.1

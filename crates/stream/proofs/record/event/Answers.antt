@@ -7,7 +7,8 @@ use Rattle.stream.proofs.record.event.Goals as goal
 
 pub returns-then-body-gt-LAST_FLAGS : goal.returns-then-body-gt-LAST_FLAGS
 unfolding record_done
-returns-then-body-gt-LAST_FLAGS c = let n = lt-leb _ _ c.if-body-gt-LAST_FLAGS.true in record { answer = simp n; slots = simp n }
+returns-then-body-gt-LAST_FLAGS c =
+    let n = lt-leb _ _ c.if-body-gt-LAST_FLAGS.true in record { answer = simp n; slots = simp n }
 
 pub returns : goal.returns
 unfolding record_done

@@ -9,10 +9,9 @@ use borrow.Author.Rules.{rules}
 use Rattle.wire.proofs.read.byte_sum.Goals as goal
 
 pub loop-i-preserved : goal.loop-i-preserved
-loop-i-preserved c = let l = c in
-    (omega arith, omega arith, omega (arith, total_drop l.args.part.now l.loop-i.i (omega arith)))
+loop-i-preserved c = (omega arith, omega arith, omega (arith, total_drop c.args.part.now c.loop-i.i (omega arith)))
 
 pub returns : goal.returns
-returns c = let l = c in
-    let p = l.args.part.now in
-    (omega (arith, total_end p l.loop-i.i (omega arith)), omega arith)
+returns c =
+    let p = c.args.part.now in
+    (omega (arith, total_end p c.loop-i.i (omega arith)), omega arith)

@@ -10,7 +10,8 @@ use borrow.Author.Rules.{rules}
 use Rattle.wire.proofs.read.long_sum.Goals as goal
 
 pub returns : goal.returns
-returns c = let p = c.args.part.now in
+returns c =
+    let p = c.args.part.now in
     let rest : List ℕ = drop (32 * (length p / 32)) p in
     let l = length-drop (32 * (length p / 32)) p in
     let e = ap total (take_all (length p - 32 * (length p / 32)) rest (omega (arith, l))) in

@@ -8,7 +8,8 @@ use borrow.Author.Rules.{rules}
 use Rattle.wire.proofs.read.sum_32.Goals as goal
 
 pub returns : goal.returns
-returns c = let a = c.args in
+returns c =
+    let a = c.args in
     let same : (i j : ℕ) → i ≡ j → total (drop i a.part.now) ≡ total (drop j a.part.now) =
     λ i j e. ap (λ (k : ℕ). total (drop k a.part.now)) e in (
       omega (

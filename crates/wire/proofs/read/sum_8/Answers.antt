@@ -5,5 +5,6 @@ use borrow.Author.Rules.{rules}
 use Rattle.wire.proofs.read.sum_8.Goals as goal
 
 pub returns : goal.returns
-returns c = let a = c.args in
+returns c =
+    let a = c.args in
     (omega (arith, total_eight a.part.now a.at (omega arith)), omega arith)

@@ -8,13 +8,13 @@ use borrow.Author.Rules.{rules}
 use Rattle.wire.proofs.read.sum_by_32.Goals as goal
 
 pub loop-i-preserved : goal.loop-i-preserved
-loop-i-preserved c = let l = c in
-    let a = l.args in
-    let e : 32 * l.loop-i.i + 32 ≡ 32 * (l.loop-i.i + 1) = omega arith in
+loop-i-preserved c =
+    let a = c.args in
+    let e : 32 * c.loop-i.i + 32 ≡ 32 * (c.loop-i.i + 1) = omega arith in
     (omega arith, omega arith, omega (arith, ap (λ (k : ℕ). total (drop k a.part.now)) e))
 
 pub returns : goal.returns
-returns c = let l = c in
-    let a = l.args in
-    let e : l.loop-i.i ≡ a.n = omega arith in
-    (l.loop-i.invariant.2 ∙ ap (λ (k : ℕ). l.loop-i.sum + total (drop (32 * k) a.part.now)) e, omega arith)
+returns c =
+    let a = c.args in
+    let e : c.loop-i.i ≡ a.n = omega arith in
+    (c.loop-i.invariant.2 ∙ ap (λ (k : ℕ). c.loop-i.sum + total (drop (32 * k) a.part.now)) e, omega arith)

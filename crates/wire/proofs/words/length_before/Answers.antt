@@ -12,13 +12,10 @@ pub loop-i-init : goal.loop-i-init
 loop-i-init c = (omega arith, omega arith)
 
 pub returns-then-bytes-i : goal.returns-then-bytes-i
-returns-then-bytes-i c = let l = c in
-    (omega (arith, before_stop l.args.b l.args.bytes.now l.loop-i.i (omega arith) c.if-bytes-i.true), omega arith)
+returns-then-bytes-i c = (omega (arith, before_stop c.args.b c.args.bytes.now c.loop-i.i (omega arith) c.if-bytes-i.true), omega arith)
 
 pub loop-i-preserved : goal.loop-i-preserved
-loop-i-preserved c = let l = c in
-    (omega arith, omega (arith, before_step l.args.b l.args.bytes.now l.loop-i.i (omega arith) c.if-bytes-i.false))
+loop-i-preserved c = (omega arith, omega (arith, before_step c.args.b c.args.bytes.now c.loop-i.i (omega arith) c.if-bytes-i.false))
 
 pub returns : goal.returns
-returns c = let l = c in
-    (omega (arith, before_end l.args.b l.args.bytes.now l.loop-i.i (omega arith)), omega arith)
+returns c = (omega (arith, before_end c.args.b c.args.bytes.now c.loop-i.i (omega arith)), omega arith)

@@ -15,16 +15,12 @@ pub loop-i-init : goal.loop-i-init
 loop-i-init c = (omega arith, refl)
 
 pub returns-then-a-i : goal.returns-then-a-i
-returns-then-a-i c = let l = c in
-    let s = l in
-    sym (l.loop-i.invariant.1 ∙ same_stop s.args.a.now s.args.b.now l.loop-i.i (omega arith) (omega arith) c.if-a-i.true)
+returns-then-a-i c = sym (c.loop-i.invariant.1 ∙ same_stop c.args.a.now c.args.b.now c.loop-i.i (omega arith) (omega arith) c.if-a-i.true)
 
 pub loop-i-preserved : goal.loop-i-preserved
-loop-i-preserved c = let l = c in
-    let s = l.args in
-    (omega arith, l.loop-i.invariant.1 ∙ same_step s.a.now s.b.now l.loop-i.i (omega arith) (omega arith) c.if-a-i.false)
+loop-i-preserved c =
+    let s = c.args in
+    (omega arith, c.loop-i.invariant.1 ∙ same_step s.a.now s.b.now c.loop-i.i (omega arith) (omega arith) c.if-a-i.false)
 
 pub returns : goal.returns
-returns c = let l = c in
-    let s = l in
-    sym (l.loop-i.invariant.1 ∙ same_end s.args.a.now s.args.b.now l.loop-i.i (omega arith) (omega arith))
+returns c = sym (c.loop-i.invariant.1 ∙ same_end c.args.a.now c.args.b.now c.loop-i.i (omega arith) (omega arith))

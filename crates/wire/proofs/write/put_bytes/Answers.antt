@@ -15,21 +15,21 @@ pub loop-i-init : goal.loop-i-init
 loop-i-init c = (omega arith, put_nil _ _, refl)
 
 pub loop-i-preserved : goal.loop-i-preserved
-loop-i-preserved c = let l = c in
-    let a = l.args in
+loop-i-preserved c =
+    let a = c.args in
     let xs = a.part.now in
     let src = a.src.now in
-    let i = l.loop-i.i in
+    let i = c.loop-i.i in
     let n : length (take i src) ≡ i = length-take-le i src (omega arith) in
     let e : take i src ++ one (get_or src i 0) ≡ take (i + 1) src = rw (add-one, take-suc src i 0 (omega arith)) in (
       omega arith,
-      then xs a.at (take i src) (one (get_or src i 0)) (a.at + i) l.loop-i.invariant.1 c.put_u8.ensures
+      then xs a.at (take i src) (one (get_or src i 0)) (a.at + i) c.loop-i.invariant.1 c.put_u8.ensures
           (omega arith) (omega arith)
           ∙ ap (put xs a.at) e,
       omega arith,
     )
 
 pub returns : goal.returns
-returns c = let l = c in
-    let a = l.args in
-    l.loop-i.invariant.1 ∙ ap (λ (v : List ℕ). put a.part.now a.at v) (take_all l.loop-i.i a.src.now (omega arith))
+returns c =
+    let a = c.args in
+    c.loop-i.invariant.1 ∙ ap (λ (v : List ℕ). put a.part.now a.at v) (take_all c.loop-i.i a.src.now (omega arith))

@@ -12,5 +12,6 @@ pub bounds-part-at-2 : goal.bounds-part-at-2
 bounds-part-at-2 c = simp length-set (omega arith)
 
 pub returns : goal.returns
-returns c = let a = c.args in
+returns c =
+    let a = c.args in
     rw add-one (put_sets (a.v / 256 ∷ a.v % 256 ∷ []) a.part.now a.at (omega arith))

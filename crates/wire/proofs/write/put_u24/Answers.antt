@@ -15,7 +15,8 @@ pub bounds-part-at-3 : goal.bounds-part-at-3
 bounds-part-at-3 c = simp length-set (omega arith)
 
 pub returns : goal.returns
-returns c = let a = c.args in
+returns c =
+    let a = c.args in
     let e1 : a.at + 1 ≡ suc a.at = omega arith in
     let e2 : a.at + 2 ≡ suc (suc a.at) = omega arith in
     rw (e1, e2) (put_sets (be24 a.v) a.part.now a.at (omega arith))

@@ -18,7 +18,8 @@ pub bounds-part-at-4 : goal.bounds-part-at-4
 bounds-part-at-4 c = simp length-set (omega arith)
 
 pub returns : goal.returns
-returns c = let a = c.args in
+returns c =
+    let a = c.args in
     let e1 : a.at + 1 ≡ suc a.at = omega arith in
     let e2 : a.at + 2 ≡ suc (suc a.at) = omega arith in
     let e3 : a.at + 3 ≡ suc (suc (suc a.at)) = omega arith in

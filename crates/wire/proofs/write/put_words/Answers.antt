@@ -15,16 +15,16 @@ unfolding words
 loop-i-init c = (omega arith, (put_nil _ _, refl))
 
 pub loop-i-preserved : goal.loop-i-preserved
-loop-i-preserved c = let l = c in
-    let a = l.args in
+loop-i-preserved c =
+    let a = c.args in
     let xs = a.part.now in
     let ws = a.ws.now in
-    let i = l.loop-i.i in
+    let i = c.loop-i.i in
     let lw : length (words (take i ws)) ≡ 4 * i = length_words_take ws i (omega arith) in (
       omega arith,
       (
         c.put_u32.ensures
-            ∙ ap (λ (d : List ℕ). put d (a.at + 4 * i) (be32 (get_or ws i 0))) l.loop-i.invariant.1.0
+            ∙ ap (λ (d : List ℕ). put d (a.at + 4 * i) (be32 (get_or ws i 0))) c.loop-i.invariant.1.0
             ∙ put_put xs a.at (words (take i ws)) (be32 (get_or ws i 0)) (a.at + 4 * i) (omega arith) (omega arith)
             ∙ ap (λ (v : List ℕ). put xs a.at v) (sym (words_take ws i (omega arith))),
         omega arith,
@@ -32,6 +32,6 @@ loop-i-preserved c = let l = c in
     )
 
 pub returns : goal.returns
-returns c = let l = c in
-    let a = l.args in
-    l.loop-i.invariant.1.0 ∙ ap (λ (v : List ℕ). put a.part.now a.at (words v)) (take_all l.loop-i.i a.ws.now (omega arith))
+returns c =
+    let a = c.args in
+    c.loop-i.invariant.1.0 ∙ ap (λ (v : List ℕ). put a.part.now a.at (words v)) (take_all c.loop-i.i a.ws.now (omega arith))

@@ -9,27 +9,28 @@ use borrow.Author.Rules.{rules}
 use Rattle.wire.proofs.write.put_zeros.Goals as goal
 
 pub loop-i-init : goal.loop-i-init
-loop-i-init c = let s = c.args in
+loop-i-init c =
+    let s = c.args in
     let e : s.from - s.from ≡ 0 = omega arith in
     (omega arith, omega arith, rw e (put_nil _ _), refl)
 
 pub loop-i-preserved : goal.loop-i-preserved
-loop-i-preserved c = let l = c in
-    let a = l.args in
+loop-i-preserved c =
+    let a = c.args in
     let xs = a.part.now in
-    let i = l.loop-i.i in
+    let i = c.loop-i.i in
     let n : ℕ = i - a.from in
     let e : n + 1 ≡ i + 1 - a.from = omega arith in
     let k : a.from + length (zeros n) ≡ i = omega (arith, length-replicate {A = ℕ} n 0) in (
       omega arith,
       omega arith,
-      then xs a.from (zeros n) (one 0) i l.loop-i.invariant.2 c.put_u8.ensures k (omega arith)
+      then xs a.from (zeros n) (one 0) i c.loop-i.invariant.2 c.put_u8.ensures k (omega arith)
           ∙ ap (put xs a.from) (zeros_more n ∙ ap zeros e),
       omega arith,
     )
 
 pub returns : goal.returns
-returns c = let l = c in
-    let a = l.args in
-    let e : l.loop-i.i ≡ a.to = omega arith in
-    l.loop-i.invariant.2 ∙ ap (λ (i : ℕ). put a.part.now a.from (zeros (i - a.from))) e
+returns c =
+    let a = c.args in
+    let e : c.loop-i.i ≡ a.to = omega arith in
+    c.loop-i.invariant.2 ∙ ap (λ (i : ℕ). put a.part.now a.from (zeros (i - a.from))) e
