@@ -1,30 +1,27 @@
 -- The state of a state's image is the state, and the image is one of a state. Assumes nothing.
-use mathlib.Core.Path.{◌≡◌, refl, sym, ap, ◌∙◌}
+use mathlib.Core.Path.{◌≡◌, refl, ap, ◌∙◌}
 use mathlib.Core.Bool.{Bool, true, false}
 use mathlib.Core.List.{List, [], ◌∷◌, ◌++◌}
-use Prim.Native.Nat.{ℕ, ◌+◌, ◌*◌, ◌/◌, ◌%◌, ◌≤◌, ◌<◌}
+use Prim.Native.Nat.{ℕ, ◌+◌, ◌*◌, ◌%◌, ◌<◌}
 use native.Mathlib.Omega.{arith}
 use borrow.Author.Tests.{le-leb}
 use lib.ListN.{length, get_or, length-append, get_or-append}
 use lib.Seq.{get_or-append-add}
 use Rattle.wire.specs.Bits.{bit_of, is_set}
 use Rattle.wire.specs.Bytes.{at16, at32, be16, be32, words}
-use Rattle.wire.specs.Pieces.{runs}
-use Rattle.wire.proofs.Bytes.{value16, value32, length_words}
+use Rattle.wire.proofs.Bytes.{value16, value32}
 use Rattle.wire.proofs.Pieces.{each_all, runs_at, words_runs, words_append, table_is}
-use Rattle.settings.specs.declared.Settings.{Settings}
 use Rattle.capacity.specs.declared.Capacity.{Capacity}
 use Rattle.capacity.specs.declared.Capacity.TheVariants.{Slots704}
 use Rattle.command.specs.declared.command.Setting.{Setting}
 use Rattle.command.specs.declared.command.Setting.TheVariants.{Limhi, Eonly, Toferror, Junk, Hv, Hvstep}
 use Rattle.command.specs.declared.command.Command.{Command}
 use Rattle.command.specs.declared.command.Command.TheVariants.{Set, Load}
-use Rattle.command_list.specs.declared.Waiting.{Waiting}
 use Rattle.command_list.specs.CommandList.{filler}
 use Rattle.state.specs.declared.State.{State}
 use Rattle.image.specs.Layout.{hv_flag, eonly_flag, toferror_flag, junk_flag}
 use Rattle.image.specs.Image.{setting_kind, setting_of, command_bytes, command_of, entry_at, commands_bytes, numbers_at, commands_at}
-use Rattle.image.specs.Image.{settings_in, interval_in, command_list_in, state_of, low, two, flags_of, counts_bytes, readings_bytes}
+use Rattle.image.specs.Image.{settings_in, interval_in, command_list_in, state_of, low, two, flags_of}
 use Rattle.image.specs.Image.{interval_bytes, settings_image, command_list_bytes, image_of, entry_good, image_good}
 use Rattle.image.specs.Fits.{CommandFits, StateFits, Back, Good}
 use Rattle.image.proofs.ListLaws.{commands_at_lem, waitings_are}

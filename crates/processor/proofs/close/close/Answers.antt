@@ -1,0 +1,57 @@
+-- A close whose number is 0 writes the packets and ends the interval; any other changes nothing.
+use mathlib.Core.Path.{◌≡◌, sym, ap, ◌∙◌}
+use native.Mathlib.Omega.{arith}
+use borrow.Author.Tests.{ne_eqb}
+use lib.ListN.{length}
+use Rattle.capacity.proofs.NumberLaws.{slots_in_packets, samples_byte}
+use Rattle.output.specs.declared.Span.{Span}
+use Rattle.output.specs.Ended.{ended_in}
+use Rattle.output.specs.Output.{span_bytes, written}
+use Rattle.processor.specs.Close.{close_done}
+use Rattle.processor.proofs.CallLaws.{CloseAccepted, close_accepted}
+use borrow.Author.Rules.{rules}
+use Rattle.processor.proofs.close.close.Goals.{Else-number-ne-CARRIED_OUT}
+use Rattle.processor.proofs.close.close.Goals as goal
+
+accepted : (l : Else-number-ne-CARRIED_OUT)
+    → let a = l.args in
+    CloseAccepted a.state (length a.tables.now) (length a.staging.now) a.slots.now (length a.out.now)
+accepted l =
+    let n = l in
+    let s = n in
+    close_accepted s.args.state _ _ s.args.slots.now _ (sym n.close_number-number.ensures ∙ l.if-number-ne-CARRIED_OUT.false)
+
+pub returns-then-number-ne-CARRIED_OUT : goal.returns-then-number-ne-CARRIED_OUT
+unfolding close_done
+returns-then-number-ne-CARRIED_OUT c = let n = ne_eqb _ _ c.if-number-ne-CARRIED_OUT.true in
+    let e = sym c.close_number-number.ensures in record { answer = simp (e, n, c.no_summary-summary.ensures); tables = simp (e, n); slots = simp (e, n); out = simp (e, n) }
+
+pub write_packets-requires : goal.write_packets-requires
+write_packets-requires c = let s = c in
+    let l = s in
+    let k = accepted (goal.at.write_packets-requires c).Else-number-ne-CARRIED_OUT in
+    let capacity = l.args.state.capacity in
+    let out = k.out_is ∙ sym (ap span_bytes s.close_span-span.ensures) in
+    let many = ap (λ (x : Span). x.many) s.close_span-span.ensures in
+    let first = ap (λ (x : Span). x.first) s.close_span-span.ensures in record {
+      s_value = (k.limits, k.lent.tables_are, out);
+      many_in_bounds = (
+        omega (arith, k.lent.slots_are, slots_in_packets capacity, many),
+        omega (arith, samples_byte capacity, many, first),
+      );
+    }
+
+pub end-after-requires : goal.end-after-requires
+end-after-requires c = let w = (let k = c in k) in
+    (accepted (goal.at.end-after-requires c).Else-number-ne-CARRIED_OUT).can_end
+
+pub returns : goal.returns
+unfolding close_done
+returns c = let d = (let k = c in k) in
+    let w = d in
+    let s = w in
+    let m = s in
+    let l = m in
+    let a = l.args in
+    let e = sym l.close_number-number.ensures ∙ l.if-number-ne-CARRIED_OUT.false in
+    let ended = ended_in a.state a.time a.tables.now a.slots.now in record { answer = simp (e, d.end-after.ensures.state, m.summary_of-summary.ensures); tables = simp e d.end-after.ensures.tables; slots = simp e d.end-after.ensures.slots; out = simp e (w.write_packets.ensures ∙ ap (written ended) s.close_span-span.ensures) }
