@@ -1,0 +1,8 @@
+-- `load_into` runs a load only where it is lawful.
+use mathlib.Core.Path.{sym, ◌∙◌}
+use borrow.Author.Tests.{not-false}
+use borrow.Author.Rules.{rules}
+use Rattle.command_cases.proofs.cases.load_into.Goals as goal
+
+pub run_load-requires : goal.run_load-requires
+run_load-requires c = let l = c in record { tables_len = search rules; reach_value = sym l.load_lawful.ensures ∙ l.if-not-load_lawful.false }

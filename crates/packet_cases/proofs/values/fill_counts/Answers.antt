@@ -1,0 +1,19 @@
+-- `fill_counts` writes inside the slice, and every count that it writes is below 2^24.
+use borrow.Author.Rules.{rules}
+use lib.Pow.{shr_le}
+use Rattle.packet_cases.proofs.Laws.{set_below}
+use Prim.Native.Nat.{◌≤◌, ◌<◌, ◌-◌, ◌%◌}
+use mathlib.Core.Path.{◌≡◌}
+use native.Mathlib.Omega.{arith}
+use lib.ListN.{length, length-set}
+use Rattle.wire.specs.Lists.{EachBelow}
+use Rattle.rate_code.specs.Rate.{count_limit}
+use Rattle.packet_cases.proofs.values.fill_counts.Goals as goal
+
+pub loop-i-preserved : goal.loop-i-preserved
+loop-i-preserved c = let l = c in (
+  omega arith,
+  omega arith,
+  set_below count_limit l.loop-i.counts l.loop-i.i _ l.loop-i.invariant.2 (omega (arith, shr_le c.next-x.result (l.loop-i.i % 24))),
+  simp length-set (omega arith),
+)
