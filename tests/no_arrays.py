@@ -16,14 +16,37 @@ WRITER = "packet::write::write_samples"
 ARRAY = re.compile(r"\[[^\[\]]*;[^\[\]]*\]|[=(,]\s*&?(?:mut\s+)?\[[^\[\]]*\]")
 # let counts = i.counts;
 COPY = re.compile(r"\blet\s+(?:mut\s+)?\w+\s*=\s*[\w.]+\.(?:interval|counts|boxes|beacons|totals)\s*;")
+CLAUSE = re.compile(r"\b(?:requires|ensures)\*?(?: \w+)? \{")
 FUNCTION = re.compile(r"^\s*(?:pub(?:\([a-z]+\))?\s+)?fn (\w+)", re.M)
 
 
 def code_of(text):
     """The text without comments, contracts and imports of definitions."""
     text = re.sub(r"//[^\n]*", "", text)
-    text = re.sub(r"⌜.*?⌝", "", text, flags=re.S)
-    return re.sub(r"ghost use[^\n]*", "", text)
+    return re.sub(r"ghost use[^\n]*", "", without_clauses(text))
+
+
+def without_clauses(text):
+    """The text without what stands in the braces of contracts."""
+    kept, at = [], 0
+    for clause in CLAUSE.finditer(text):
+        if clause.start() < at:
+            continue
+        kept.append(text[at:clause.start()])
+        at, depth = clause.end(), 1
+        while depth:
+            depth += {"{": 1, "}": -1}.get(text[at], 0)
+            at += 1
+    return "".join(kept) + text[at:]
+
+
+def imports_of(text):
+    """Each imported name with its path."""
+    found = {}
+    for path, names in re.findall(r"^use ([\w:]+?)(?:::\{([^}]*)\})?;", text, re.M):
+        for name in re.findall(r"\w+", names) or [path.split("::")[-1]]:
+            found[name] = f"{path}::{name}" if names else path
+    return found
 
 
 def arrays_in(code):
@@ -56,7 +79,7 @@ def functions():
             with open(os.path.join(folder, file), encoding="utf-8") as f:
                 text = code_of(f.read())
             module = crate if file == "lib.rt" else f"{crate}::{file[:-3]}"
-            imports = {path.split("::")[-1]: path for path in re.findall(r"^use ([\w:]+);", text, re.M)}
+            imports = imports_of(text)
             starts = [m for m in FUNCTION.finditer(text)]
             ends = [m.start() for m in starts[1:]] + [len(text)]
             for m, end in zip(starts, ends):

@@ -1,6 +1,6 @@
 -- What holds of the numbers of every capacity. All that proofs know of them. Assumes nothing.
 use mathlib.Core.Path.{◌≡◌, refl}
-use Prim.Native.Nat.{ℕ, ◌+◌, ◌*◌, ◌<◌}
+use Prim.Native.Nat.{◌+◌, ◌*◌, ◌<◌}
 use native.Mathlib.Omega.{arith}
 use Rattle.capacity.specs.declared.Capacity.{Capacity}
 use Rattle.capacity.specs.declared.Capacity.TheVariants.{Slots704}

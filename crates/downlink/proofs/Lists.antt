@@ -1,11 +1,9 @@
 -- After every lawful list of calls to a fresh processor the ground reads what the tally keeps of a closed interval: no word of any call.
 -- Assumes nothing.
-use mathlib.Core.Path.{◌≡◌, refl, sym, ap, ◌∙◌, subst}
+use mathlib.Core.Path.{sym, ap, ◌∙◌, subst}
 use mathlib.Core.List.{List}
 use Prim.Native.Nat.{ℕ, ◌<◌}
 use native.Mathlib.Omega.{arith}
-use lib.ListN.{length}
-use Rattle.wire.specs.Lists.{All}
 use Rattle.capacity.proofs.NumberLaws.{slots_in_packets}
 use Rattle.samples.proofs.Places.{All-map}
 use Rattle.samples.proofs.SelectionLaws.{slots_good}
@@ -14,7 +12,7 @@ use Rattle.tally.specs.Steps.{Done, after}
 use Rattle.tally.specs.World.{World, fresh_world}
 use Rattle.tally.specs.Calls.{Sent, Listing, written_listing, Answered, processor_step}
 use Rattle.tally.specs.Tally.{Tally, fresh_tally, events_of, slots_for, sent_for, tally_step}
-use Rattle.tally.specs.View.{view_state, view}
+use Rattle.tally.specs.View.{view}
 use Rattle.tally.specs.Demand3.{ClosedInterval, ListedPart, Right}
 use Rattle.tally.proofs.Corollaries.{now_inv, close_now, listing_now}
 use Rattle.tally.proofs.Intervals.{slots_are}

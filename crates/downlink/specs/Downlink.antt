@@ -1,5 +1,5 @@
 -- What the ground reads of an interval that was closed aboard (demand 2; document 01, "Packets"). Assumes nothing.
-use Rattle.std.specs.Prelude.{ℕ, zero, suc, ◌+◌, ◌*◌, ◌≤◌, ◌<◌, ◌≡◌, true, List, [], ◌∷◌, ◌++◌, length, take}
+use Rattle.std.specs.Prelude.{ℕ, zero, suc, ◌+◌, ◌*◌, ◌≤◌, ◌<◌, ◌≡◌, true, List, [], ◌++◌, length, take}
 use Rattle.causes.specs.Causes.{carried_out}
 use Rattle.wire.specs.Bytes.{words}
 use Rattle.wire.specs.Lists.{All, EachBelow, all}

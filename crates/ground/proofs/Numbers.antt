@@ -19,7 +19,7 @@ use Rattle.decode.specs.Limits.{last_sample}
 use Rattle.decode.specs.Read.{application_of, kind_of, is_kind, fields_good, header_good, body_good, read_checks, read_number}
 use Rattle.decode.proofs.Reading.{passed, accepted_body, accepted_rate, accepted_beacon, rate_end, beacon_end_lem}
 use Rattle.ground.specs.declared.Packet.{Packet}
-use Rattle.ground.specs.Ground.{refused, accepted, contents, read_of}
+use Rattle.ground.specs.Ground.{refused, accepted, contents}
 use Rattle.ground.specs.Theorems.{LowestRead, TakenAs, OtherNumber, ListingNotRead}
 use Rattle.ground.proofs.Answers.{read_accepted, read_refused, no_records, number_read}
 

@@ -4,13 +4,12 @@ use mathlib.Core.Bool.{Bool, true, false, ◌&&◌, cond}
 use mathlib.Core.List.{List, [], ◌∷◌}
 use Prim.Native.Nat.{ℕ, ◌≤◌, ◌<◌}
 use borrow.Author.Tests.{eqb-true, ltb-true, leb-true}
-use lib.Dec.{eqb, leb}
+use lib.Dec.{leb}
 use lib.ListN.{length}
 use Rattle.causes.specs.Causes as cause
 use Rattle.causes.specs.Checks.{number_by}
 use Rattle.causes.proofs.CheckLaws.{all_passed}
 use Rattle.wire.proofs.Lists.{and_left, and_split}
-use Rattle.capacity.specs.Capacity.{numbers_of}
 use Rattle.tables.specs.Tables.{table_bytes}
 use Rattle.load.specs.Bitmap.{bitmap_bytes}
 use Rattle.load.specs.Staging.{staging_bytes}

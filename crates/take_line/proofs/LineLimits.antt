@@ -1,5 +1,5 @@
 -- An accepted line leaves a state within its limits. Assumes nothing.
-use mathlib.Core.Path.{◌≡◌, ap, ◌∙◌}
+use mathlib.Core.Path.{◌≡◌, ap}
 use mathlib.Core.Bool.{Bool, true, not}
 use mathlib.Core.List.{List}
 use Prim.Native.Nat.{ℕ}
@@ -11,7 +11,6 @@ use Rattle.load.proofs.StagingLaws.{addresses_are, addresses_whole, fresh_addres
 use Rattle.command.specs.declared.command.Command.TheVariants.{Set, Load}
 use Rattle.command.specs.declared.command.Line.{Line}
 use Rattle.command.specs.declared.command.Line.TheVariants.{Empty, Wrong, Change, LoadZero, LoadAt, Ask, Commit}
-use Rattle.command.specs.declared.traits.Leaves.{Leaves}
 use Rattle.command.specs.Asked.{traits_of}
 use Rattle.command.specs.Grammar.{line_of}
 use Rattle.command.proofs.CommandLaws.{waits_ok, loadat_within}

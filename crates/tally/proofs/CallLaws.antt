@@ -1,6 +1,6 @@
 -- Laws of one call from any world, reached or not: limits are kept, a refused call leaves all, and settings and tables change in a close
 -- alone. Assumes nothing.
-use mathlib.Core.Path.{◌≡◌, ap, ◌∙◌}
+use mathlib.Core.Path.{◌≡◌, ap}
 use mathlib.Core.Bool.{true, false}
 use mathlib.Core.List.{List, []}
 use Prim.Native.Nat.{ℕ}

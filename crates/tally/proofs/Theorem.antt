@@ -14,7 +14,7 @@ use Rattle.load.specs.Staging.{fresh_addresses}
 use Rattle.state.specs.State.{fresh_state}
 use Rattle.state.specs.Limits.{within_limits}
 use Rattle.processor.proofs.LimitsKept.{fresh_kept}
-use Rattle.tally.specs.Steps.{Done, Lawful}
+use Rattle.tally.specs.Steps.{Done}
 use Rattle.tally.specs.World.{World, fresh_world, with_slots, Lending}
 use Rattle.tally.specs.Calls.{Call, Answered, Made, processed_by, single_processed, SingleCall, processor_step}
 use Rattle.tally.specs.Tally.{unwritten, Tally, fresh_tally, events_of, slots_for, Judged, tallied_by, single_tallied, tally_step}

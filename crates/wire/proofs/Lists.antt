@@ -7,10 +7,10 @@ use Prim.Native.Nat.{ℕ, zero, suc, ◌+◌, ◌-◌, ◌≤◌, ◌<◌, min, 
 use native.Mathlib.Nat.{le_refl, le_trans, le-suc}
 use native.Mathlib.Numerals.{add-one}
 use native.Mathlib.Omega.{arith}
-use lib.ListN.{length, take, drop, get_or, set, replicate, length-take, drop_of_length-le, get_or-eq_default}
+use lib.ListN.{length, take, drop, get_or, replicate, length-take, drop_of_length-le, get_or-eq_default}
 use lib.Seq.{drop-cons, drop_at, get_or-set_same, get_or-set_other, length-take-le, set_out, take-add, take_all, take-take}
 use lib.Seq.{get_or-take, get_or-drop}
-use borrow.Author.Tests.{leb-true, leb-false, le-leb, ltb-true, ltb-false}
+use borrow.Author.Tests.{leb-true, leb-false, ltb-true, ltb-false}
 use lib.Dec.{leb, ltb}
 use native.Mathlib.Decide.{ℕ_discrete, dec_lt}
 use Rattle.wire.specs.Lists.{all, at_most, EachBelow, bump, join_if, keep}

@@ -1,7 +1,6 @@
 -- `accept` counts a command that leaves none waiting, and puts any other behind those that wait.
 use mathlib.Core.Path.{sym, ap, ◌∙◌}
 use Rattle.command_list.specs.CommandList.{with_accepted}
-use borrow.Author.Rules.{rules}
 use Rattle.command_list.proofs.accept.Goals as goal
 
 pub returns-in-Nothing : goal.returns-in-Nothing

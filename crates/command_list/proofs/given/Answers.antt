@@ -1,5 +1,5 @@
 -- `given` tests the waiting commands, one after the other, with no early exit.
-use Prim.Native.Nat.{◌≤◌, ◌-◌, ◌+◌}
+use Prim.Native.Nat.{◌+◌}
 use mathlib.Core.Bool.{◌&&◌}
 use mathlib.Core.Path.{◌≡◌, refl, sym, ap, ◌∙◌}
 use native.Mathlib.Omega.{arith}
@@ -8,7 +8,6 @@ use lib.Seq.{get_or-take}
 use Rattle.wire.specs.Lists.{all}
 use Rattle.wire.proofs.Lists.{scan_step, scan_end}
 use Rattle.command_list.specs.CommandList.{filler, given_at}
-use borrow.Author.Rules.{rules}
 use Rattle.command_list.proofs.given.Goals as goal
 
 pub loop-i-init : goal.loop-i-init

@@ -1,14 +1,10 @@
 -- `given` tests the waiting commands, one after the other, with no early exit.
-use Prim.Native.Nat.{◌≤◌, ◌-◌, ◌+◌}
+use Prim.Native.Nat.{◌≤◌, ◌-◌}
 use mathlib.Core.Bool.{◌&&◌}
-use mathlib.Core.Path.{◌≡◌, refl, sym, ap, ◌∙◌}
-use native.Mathlib.Omega.{arith}
-use lib.ListN.{length, take, drop}
-use lib.Seq.{get_or-take}
+use mathlib.Core.Path.{◌≡◌}
+use lib.ListN.{take, drop}
 use Rattle.wire.specs.Lists.{all}
-use Rattle.wire.proofs.Lists.{scan_step, scan_end}
-use Rattle.command_list.specs.CommandList.{filler, given_at}
-use borrow.Author.Rules.{rules}
+use Rattle.command_list.specs.CommandList.{given_at}
 use Rattle.command_list.proofs.given.Given as goal
 
 abbrev pub invariant-loop-i : goal.invariant-loop-i

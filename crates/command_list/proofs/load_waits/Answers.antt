@@ -1,5 +1,4 @@
 -- `load_waits` asks whether there is a load among those that wait.
-use borrow.Author.Rules.{rules}
 use Rattle.command_list.proofs.load_waits.Goals as goal
 
 pub returns : goal.returns

@@ -1,7 +1,6 @@
 -- `loads` counts the loads among the waiting commands.
-use Prim.Native.Nat.{◌≤◌, ◌-◌, ◌+◌}
+use Prim.Native.Nat.{◌+◌}
 use mathlib.Core.Bool.{cond}
-use mathlib.Core.Logic.{⊎_elim}
 use mathlib.Core.Path.{◌≡◌, sym, ap, ◌∙◌}
 use native.Mathlib.Omega.{arith}
 use lib.ListN.{length, take, drop}
@@ -9,7 +8,6 @@ use lib.Seq.{get_or-take}
 use Rattle.wire.proofs.Lists.{count_step, count_end}
 use Rattle.command.specs.Asked.{is_load}
 use Rattle.command_list.specs.CommandList.{filler, loads_in}
-use borrow.Author.Rules.{rules}
 use Rattle.command_list.proofs.loads.Goals.{then-is_load, else-is_load}
 use Rattle.command_list.proofs.loads.Goals as goal
 

@@ -1,15 +1,8 @@
 -- `loads` counts the loads among the waiting commands.
 use Prim.Native.Nat.{◌≤◌, ◌-◌, ◌+◌}
-use mathlib.Core.Bool.{cond}
-use mathlib.Core.Logic.{⊎_elim}
-use mathlib.Core.Path.{◌≡◌, sym, ap, ◌∙◌}
-use native.Mathlib.Omega.{arith}
-use lib.ListN.{length, take, drop}
-use lib.Seq.{get_or-take}
-use Rattle.wire.proofs.Lists.{count_step, count_end}
-use Rattle.command.specs.Asked.{is_load}
-use Rattle.command_list.specs.CommandList.{filler, loads_in}
-use borrow.Author.Rules.{rules}
+use mathlib.Core.Path.{◌≡◌}
+use lib.ListN.{take, drop}
+use Rattle.command_list.specs.CommandList.{loads_in}
 use Rattle.command_list.proofs.loads.Given as goal
 
 abbrev pub invariant-loop-i : goal.invariant-loop-i

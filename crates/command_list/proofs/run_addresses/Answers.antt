@@ -1,6 +1,5 @@
 -- `run_addresses` makes both addresses 0 where a load waits.
 use mathlib.Core.Path.{sym, ◌∙◌}
-use borrow.Author.Rules.{rules}
 use Rattle.command_list.proofs.run_addresses.Goals as goal
 
 pub returns-then-load_waits : goal.returns-then-load_waits

@@ -3,7 +3,6 @@ use mathlib.Core.Path.{sym, ap, ◌∙◌}
 use Rattle.command.specs.declared.command.Command.{Command}
 use Rattle.command.specs.Change.{tables_after}
 use Rattle.command.specs.Grammar.{command_ok}
-use borrow.Author.Rules.{rules}
 use Rattle.command_list.proofs.run_command.Goals as goal
 
 pub run_load-requires : goal.run_load-requires

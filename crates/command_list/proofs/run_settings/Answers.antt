@@ -1,5 +1,5 @@
 -- `run_settings` runs the waiting commands on the settings, one after the other.
-use Prim.Native.Nat.{◌≤◌, ◌-◌, ◌+◌}
+use Prim.Native.Nat.{◌+◌}
 use mathlib.Core.Path.{◌≡◌, refl, sym, ap, ◌∙◌}
 use native.Mathlib.Omega.{arith}
 use lib.ListN.{length, take, drop}
@@ -8,7 +8,6 @@ use Rattle.command.specs.Change.{settings_after}
 use Rattle.command_list.specs.CommandList.{filler}
 use Rattle.command_list.specs.Run.{settings_after_all}
 use Rattle.command_list.proofs.RunLaws.{settings_step, settings_end}
-use borrow.Author.Rules.{rules}
 use Rattle.command_list.proofs.run_settings.Goals as goal
 
 pub loop-i-init : goal.loop-i-init

@@ -1,14 +1,8 @@
 -- `run_settings` runs the waiting commands on the settings, one after the other.
-use Prim.Native.Nat.{◌≤◌, ◌-◌, ◌+◌}
-use mathlib.Core.Path.{◌≡◌, refl, sym, ap, ◌∙◌}
-use native.Mathlib.Omega.{arith}
-use lib.ListN.{length, take, drop}
-use lib.Seq.{get_or-take}
-use Rattle.command.specs.Change.{settings_after}
-use Rattle.command_list.specs.CommandList.{filler}
+use Prim.Native.Nat.{◌≤◌, ◌-◌}
+use mathlib.Core.Path.{◌≡◌}
+use lib.ListN.{take, drop}
 use Rattle.command_list.specs.Run.{settings_after_all}
-use Rattle.command_list.proofs.RunLaws.{settings_step, settings_end}
-use borrow.Author.Rules.{rules}
 use Rattle.command_list.proofs.run_settings.Given as goal
 
 abbrev pub invariant-loop-i : goal.invariant-loop-i

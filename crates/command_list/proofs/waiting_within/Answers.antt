@@ -1,7 +1,6 @@
 -- `waiting_within` judges the limits in their order.
 use borrow.Author.Tests.{le-leb, lt-leb}
 use Rattle.command_list.specs.CommandList.{command_list_within}
-use borrow.Author.Rules.{rules}
 use Rattle.command_list.proofs.waiting_within.Goals as goal
 
 pub returns-then-o-gt-MOST_COMMANDS : goal.returns-then-o-gt-MOST_COMMANDS

@@ -5,7 +5,6 @@ use lib.Dec.{leb}
 use Rattle.wire.specs.Lists.{keep}
 use Rattle.wire.proofs.Lists.{and_left, and_right}
 use Rattle.command_list.specs.CommandList.{most_commands, loads_in, command_list_within}
-use borrow.Author.Rules.{rules}
 use Rattle.command_list.proofs.within.Goals as goal
 
 pub returns-then-o : goal.returns-then-o

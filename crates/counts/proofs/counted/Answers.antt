@@ -4,8 +4,6 @@ use Rattle.counts.specs.Counts.{counted_of}
 use mathlib.Core.Path.{sym, ap, ◌∙◌, subst}
 use native.Mathlib.Omega.{arith}
 use Rattle.wire.proofs.Lists.{each_more}
-use Rattle.counts.proofs.CountLaws.{box_below}
-use borrow.Author.Rules.{rules}
 use Rattle.counts.proofs.counted.Goals as goal
 
 pub with_box-requires : goal.with_box-requires

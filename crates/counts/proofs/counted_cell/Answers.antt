@@ -3,7 +3,6 @@ use mathlib.Core.Path.{ap}
 use native.Mathlib.Omega.{arith}
 use Rattle.counts.specs.declared.Counts.{Counts}
 use Rattle.counts.proofs.CountLaws.{cell_counted}
-use borrow.Author.Rules.{rules}
 use Rattle.counts.proofs.counted_cell.Goals as goal
 
 pub with_beacon-requires : goal.with_beacon-requires

@@ -3,7 +3,6 @@ use Prim.Native.Nat.{◌-◌}
 use native.Mathlib.Omega.{arith}
 use Rattle.wire.specs.Lists.{bump}
 use Rattle.wire.proofs.Lists.{each_bump}
-use borrow.Author.Rules.{rules}
 use Rattle.counts.proofs.with_boxes.Goals as goal
 
 pub overflow_add-d : goal.overflow_add-d

@@ -6,7 +6,6 @@ use native.Mathlib.Omega.{arith}
 use Rattle.wire.specs.Bytes.{put, zeros}
 use Rattle.wire.proofs.Bytes.{then}
 use Rattle.echo.specs.Echo.{ending}
-use borrow.Author.Rules.{rules}
 use Rattle.echo.proofs.finish.Goals as goal
 
 pub returns : goal.returns

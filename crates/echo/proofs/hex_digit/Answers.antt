@@ -1,6 +1,5 @@
 -- `hex_digit` gives the letter or the figure of a value below 16.
 use borrow.Author.Tests.{le-leb, lt-leb}
-use borrow.Author.Rules.{rules}
 use Rattle.echo.proofs.hex_digit.Goals as goal
 
 pub returns-then-d-le9 : goal.returns-then-d-le9

@@ -4,7 +4,6 @@ use mathlib.Core.List.{[], ◌∷◌}
 use native.Mathlib.Omega.{arith}
 use Rattle.wire.specs.Bytes.{put}
 use Rattle.wire.proofs.Bytes.{then}
-use borrow.Author.Rules.{rules}
 use Rattle.echo.proofs.put_hex2.Goals as goal
 
 pub returns : goal.returns

@@ -2,7 +2,6 @@
 use mathlib.Core.Path.{refl}
 use native.Mathlib.Omega.{arith}
 use Rattle.wire.proofs.Bytes.{then}
-use borrow.Author.Rules.{rules}
 use Rattle.echo.proofs.put_numbers.Goals as goal
 
 pub returns : goal.returns

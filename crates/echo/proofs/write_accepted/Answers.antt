@@ -8,7 +8,6 @@ use Rattle.wire.proofs.Bytes.{then}
 use Rattle.wire.specs.Text.{text, hex2}
 use Rattle.echo.specs.Echo.{accepted_echo}
 use Rattle.echo.proofs.EchoLaws.{echo_ends}
-use borrow.Author.Rules.{rules}
 use Rattle.echo.proofs.write_accepted.Goals as goal
 
 pub returns : goal.returns

@@ -7,7 +7,6 @@ use Rattle.wire.proofs.Bytes.{then}
 use Rattle.wire.specs.Text.{text}
 use Rattle.echo.specs.Echo.{hex8, numbers, package_error_echo}
 use Rattle.echo.proofs.EchoLaws.{echo_ends}
-use borrow.Author.Rules.{rules}
 use Rattle.echo.proofs.write_package_error.Goals as goal
 
 pub returns : goal.returns

@@ -3,7 +3,6 @@ use mathlib.Core.Path.{refl}
 use native.Mathlib.Omega.{arith}
 use Rattle.echo.specs.Echo.{prompt, prompt_echo}
 use Rattle.echo.proofs.EchoLaws.{echo_is}
-use borrow.Author.Rules.{rules}
 use Rattle.echo.proofs.write_prompt.Goals as goal
 
 pub returns : goal.returns

@@ -7,7 +7,6 @@ use Rattle.wire.proofs.Bytes.{then}
 use Rattle.wire.specs.Text.{text}
 use Rattle.echo.specs.Echo.{refused_echo}
 use Rattle.echo.proofs.EchoLaws.{echo_ends}
-use borrow.Author.Rules.{rules}
 use Rattle.echo.proofs.write_refused.Goals as goal
 
 pub returns : goal.returns

@@ -8,7 +8,6 @@ use Rattle.command_list.specs.CommandList.{waiting_of, command_list_within}
 use Rattle.command_list.specs.Run.{tables_after_all}
 use Rattle.state.proofs.LimitLaws.{state_limits}
 use Rattle.end_interval.proofs.EndLaws.{end_passed}
-use borrow.Author.Rules.{rules}
 use Rattle.end_interval.proofs.end.Goals as goal
 
 pub run_loads-requires : goal.run_loads-requires

@@ -1,5 +1,4 @@
 -- `endable` is the limits, the lengths and the slots.
-use borrow.Author.Rules.{rules}
 use Rattle.end_interval.proofs.endable.Goals as goal
 
 pub returns : goal.returns

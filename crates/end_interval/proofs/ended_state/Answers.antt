@@ -1,7 +1,6 @@
 -- `ended_state` is a fresh state but for the frame, the settings and the staging addresses.
 use Rattle.state.specs.State.{fresh_state}
 use Rattle.end_interval.specs.End.{state_ended}
-use borrow.Author.Rules.{rules}
 use Rattle.end_interval.proofs.ended_state.Goals as goal
 
 pub returns : goal.returns

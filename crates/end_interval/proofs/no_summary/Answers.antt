@@ -1,5 +1,4 @@
 -- The counts are those of `no_counts`.
-use borrow.Author.Rules.{rules}
 use Rattle.end_interval.proofs.no_summary.Goals as goal
 
 pub returns : goal.returns

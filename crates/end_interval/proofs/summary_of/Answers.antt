@@ -1,5 +1,4 @@
 -- The filled slots are counted; all else is the interval's.
-use borrow.Author.Rules.{rules}
 use Rattle.end_interval.proofs.summary_of.Goals as goal
 
 pub returns : goal.returns

@@ -1,5 +1,4 @@
 -- `records` hands back a part only where the packet is an accepted one of samples, which has 272 bytes.
-use borrow.Author.Rules.{rules}
 use mathlib.Core.Path.{sym, ◌∙◌}
 use native.Mathlib.Omega.{arith}
 use Rattle.ground.proofs.Answers.{samples_length}

@@ -1,5 +1,4 @@
 -- `samples_in` asks for the kind only where the number is 0, and so the packet has 272 bytes.
-use borrow.Author.Rules.{rules}
 use mathlib.Core.Path.{◌≡◌, sym, ap, ◌∙◌}
 use borrow.Author.Tests.{eq-eqb, ne_eqb}
 use Rattle.decode.specs.Read.{kind_of, read_number}

@@ -6,7 +6,7 @@ use native.Mathlib.Omega.{arith}
 use borrow.Rule.Slice.PartMut.{put_mid}
 use lib.ListN.{length, length-append}
 use Rattle.wire.specs.Bytes.{put}
-use Rattle.wire.proofs.Bytes.{then, put_all, put_mid_lem, length_part}
+use Rattle.wire.proofs.Bytes.{then, put_all, put_mid_lem}
 use Rattle.boxes.specs.Boxes.{box_count, beacon_count, total_count}
 use Rattle.rate_code.specs.Editions.{second_mark}
 use Rattle.packet.specs.declared.stamp.Stamp.{Stamp}

@@ -1,18 +1,10 @@
 -- Each turn of `write_samples` adds one sample packet behind those that are written.
-use Prim.Native.Nat.{ℕ, ◌≤◌, ◌-◌, ◌+◌, ◌*◌}
-use mathlib.Core.Path.{◌≡◌, refl, sym, ap, ◌∙◌}
-use mathlib.Core.List.{List}
-use native.Mathlib.Omega.{arith}
-use native.Mathlib.Numerals.{add-one}
-use borrow.Rule.Slice.PartMut.{put_mid}
-use lib.ListN.{length, take, drop}
+use Prim.Native.Nat.{◌≤◌, ◌-◌}
+use mathlib.Core.Path.{◌≡◌}
+use lib.ListN.{length}
 use Rattle.wire.specs.Bytes.{put}
-use Rattle.wire.proofs.Bytes.{put_put, put_nil, put_mid_lem, length_part}
-use Rattle.packet.specs.Packet.{packet_bytes, stamp_of, sample_packet}
+use Rattle.packet.specs.Packet.{packet_bytes}
 use Rattle.output.specs.Output.{samples_of}
-use Rattle.packet.proofs.Written.{length_sample}
-use Rattle.output.proofs.OutputLaws.{length_samples}
-use borrow.Author.Rules.{rules}
 use Rattle.output.proofs.write_samples.Given as goal
 
 abbrev pub invariant-loop-i : goal.invariant-loop-i

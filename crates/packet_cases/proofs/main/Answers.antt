@@ -1,9 +1,8 @@
 -- `main` lends each writer a part of 272 bytes, lists of its length and counts that have codes, and a p to 10.
 use borrow.Author.Rules.{rules}
-use mathlib.Core.Path.{refl, ap}
-use mathlib.Core.List.{[], ◌∷◌}
+use mathlib.Core.Path.{ap}
 use native.Mathlib.Omega.{arith}
-use Rattle.wire.proofs.Lists.{all_at, each_zeros}
+use Rattle.wire.proofs.Lists.{each_zeros}
 use Rattle.packet.specs.declared.stamp.Stamp.{Stamp}
 use Rattle.rate_code.specs.Rate.{count_limit}
 use Rattle.boxes.specs.Boxes.{box_count, beacon_count}

@@ -3,7 +3,6 @@ use Prim.Native.Nat.{ℕ}
 use mathlib.Core.Path.{ap, ◌∙◌}
 use native.Mathlib.Nat.{mod-eq_of_lt}
 use lib.Bits.{bit_or, or_shifted}
-use borrow.Author.Rules.{rules}
 use Rattle.sample_record.proofs.append.Goals as goal
 
 pub returns : goal.returns

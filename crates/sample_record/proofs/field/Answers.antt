@@ -3,7 +3,6 @@ use Prim.Native.Nat.{◌/◌, ◌^◌}
 use lib.Bits.{and_mask}
 use lib.Pow.{pow_pos}
 use Rattle.sample_record.proofs.RecordLaws.{mask}
-use borrow.Author.Rules.{rules}
 use Rattle.sample_record.proofs.field.Goals as goal
 
 pub overflow_sub-result : goal.overflow_sub-result

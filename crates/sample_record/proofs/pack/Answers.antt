@@ -1,6 +1,5 @@
 -- `pack` appends the eight fields one by one, which is the sum that `recordOf` writes.
 use Rattle.sample_record.specs.Record.{record_of}
-use borrow.Author.Rules.{rules}
 use Rattle.sample_record.proofs.pack.Goals as goal
 
 pub returns : goal.returns

@@ -1,5 +1,4 @@
 -- `record_good` tests the box bits that `record_box` takes out.
-use borrow.Author.Rules.{rules}
 use Rattle.sample_record.proofs.record_good.Goals as goal
 
 pub returns : goal.returns

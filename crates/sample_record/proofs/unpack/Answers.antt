@@ -1,6 +1,5 @@
 -- `unpack` takes each field out by its own shift and width, as `sampleOf` does.
 use Rattle.sample_record.specs.Record.{sample_of}
-use borrow.Author.Rules.{rules}
 use Rattle.sample_record.proofs.unpack.Goals as goal
 
 pub returns : goal.returns

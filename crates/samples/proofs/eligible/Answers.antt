@@ -1,5 +1,4 @@
 -- `eligible` tests the box that `box_of` gives.
-use borrow.Author.Rules.{rules}
 use Rattle.samples.proofs.eligible.Goals as goal
 
 pub returns : goal.returns

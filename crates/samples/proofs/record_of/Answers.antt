@@ -3,7 +3,6 @@ use native.Mathlib.Omega.{arith}
 use Rattle.sort.proofs.EventLaws.{in_range_lem, channel_fits}
 use Rattle.samples.specs.Samples.{event_record}
 use Rattle.samples.proofs.RecordLaws.{box_fits}
-use borrow.Author.Rules.{rules}
 use Rattle.samples.proofs.record_of.Goals as goal
 
 pub pack-requires : goal.pack-requires

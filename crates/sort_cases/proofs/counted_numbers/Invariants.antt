@@ -1,7 +1,6 @@
 -- `counted_numbers` reads each count within the slice.
 use Prim.Native.Nat.{◌≤◌, ◌-◌}
 use lib.ListN.{length}
-use borrow.Author.Rules.{rules}
 use Rattle.sort_cases.proofs.counted_numbers.Given as goal
 
 abbrev pub invariant-loop-i : goal.invariant-loop-i

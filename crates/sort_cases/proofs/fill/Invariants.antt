@@ -3,7 +3,6 @@ use Prim.Native.Nat.{◌≤◌, ◌-◌}
 use lib.ListN.{length}
 use mathlib.Core.Path.{◌≡◌}
 use Rattle.tables.specs.Tables.{table_bytes}
-use borrow.Author.Rules.{rules}
 use Rattle.sort_cases.proofs.fill.Given as goal
 
 abbrev pub invariant-loop-i : goal.invariant-loop-i

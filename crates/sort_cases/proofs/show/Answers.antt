@@ -1,6 +1,5 @@
 -- `show` sorts an event only where the test of its fields passed.
 use mathlib.Core.Path.{sym, ◌∙◌}
-use borrow.Author.Rules.{rules}
 use Rattle.sort_cases.proofs.show.Goals as goal
 
 pub show_sorted-requires : goal.show_sorted-requires

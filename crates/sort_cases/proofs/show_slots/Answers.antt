@@ -1,8 +1,5 @@
 -- `show_slots` reads each slot within the slice, and a slot fits the number printed.
-use Prim.Native.Nat.{◌≤◌, ◌-◌}
 use native.Mathlib.Omega.{arith}
-use lib.ListN.{length}
-use borrow.Author.Rules.{rules}
 use Rattle.sort_cases.proofs.show_slots.Goals as goal
 
 pub overflow_cast-slots : goal.overflow_cast-slots

@@ -1,8 +1,6 @@
 -- `show_slots` reads each slot within the slice, and a slot fits the number printed.
 use Prim.Native.Nat.{◌≤◌, ◌-◌}
-use native.Mathlib.Omega.{arith}
 use lib.ListN.{length}
-use borrow.Author.Rules.{rules}
 use Rattle.sort_cases.proofs.show_slots.Given as goal
 
 abbrev pub invariant-loop-i : goal.invariant-loop-i

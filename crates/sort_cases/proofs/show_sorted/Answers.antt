@@ -5,7 +5,6 @@ use Rattle.wire.proofs.Lists.{each_zeros}
 use Rattle.boxes.specs.Boxes.{box_count, beacon_count}
 use Rattle.sort.specs.Boxes.{OutcomeNames}
 use Rattle.sort.proofs.EventLaws.{outcome_names}
-use borrow.Author.Rules.{rules}
 use Rattle.sort_cases.proofs.show_sorted.Goals.{After-outcome_of-o}
 use Rattle.sort_cases.proofs.show_sorted.Goals as goal
 

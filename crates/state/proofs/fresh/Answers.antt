@@ -1,6 +1,5 @@
 -- A fresh state is made of the fresh parts.
 use Rattle.state.specs.State.{fresh_state}
-use borrow.Author.Rules.{rules}
 use Rattle.state.proofs.fresh.Goals as goal
 
 pub returns : goal.returns

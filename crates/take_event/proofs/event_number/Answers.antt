@@ -1,11 +1,9 @@
 -- `event_number` goes through the three checks of an event in their order.
 use mathlib.Core.Path.{◌≡◌, sym}
 use mathlib.Core.Bool.{true, false, ◌&&◌}
-use borrow.Author.Tests.{not-true, not-false}
 use lib.Dec.{eqb}
 use Rattle.tables.specs.Tables.{table_bytes}
 use Rattle.take_event.specs.Event.{event_number}
-use borrow.Author.Rules.{rules}
 use Rattle.take_event.proofs.event_number.Goals as goal
 
 pub returns-then-not-limits-lent : goal.returns-then-not-limits-lent

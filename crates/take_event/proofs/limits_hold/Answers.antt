@@ -1,6 +1,5 @@
 -- `limits_hold` is the tests of the parts that have limits.
 use Rattle.state.proofs.LimitLaws.{limits_by_parts}
-use borrow.Author.Rules.{rules}
 use Rattle.take_event.proofs.limits_hold.Goals as goal
 
 pub returns : goal.returns

@@ -8,7 +8,6 @@ use Rattle.capacity.specs.Capacity.{numbers_of}
 use Rattle.capacity.proofs.NumberLaws.{limhi_slots}
 use Rattle.state.proofs.LimitLaws.{state_limits, boxes_below, beacons_below}
 use Rattle.take_event.specs.Event.{interval_taken}
-use borrow.Author.Rules.{rules}
 use Rattle.take_event.proofs.take_event.Goals.{After-outcome_of-o}
 use Rattle.take_event.proofs.take_event.Goals as goal
 

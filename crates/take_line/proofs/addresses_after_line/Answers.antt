@@ -1,7 +1,6 @@
 -- `addresses_after_line` makes both addresses 0 by load 0 and sets the next one by loadat; no other line changes them.
 use mathlib.Core.Path.{sym, ap}
 use Rattle.take_line.specs.Line.{addresses_after_line}
-use borrow.Author.Rules.{rules}
 use Rattle.take_line.proofs.addresses_after_line.Goals as goal
 
 pub returns-in-LoadAt : goal.returns-in-LoadAt

@@ -6,7 +6,6 @@ use Rattle.command_list.specs.CommandList.{commands_full}
 use Rattle.command_list.proofs.CommandListLaws.{commands_are}
 use Rattle.state.proofs.LimitLaws.{state_limits}
 use Rattle.take_line.specs.Line.{state_after_line}
-use borrow.Author.Rules.{rules}
 use Rattle.take_line.proofs.after_line.Goals as goal
 
 pub commands_after-commands-requires : goal.commands_after-commands-requires

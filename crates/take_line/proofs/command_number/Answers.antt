@@ -1,5 +1,4 @@
 -- `command_number` goes through the three checks of a command in their order.
-use borrow.Author.Rules.{rules}
 use Rattle.take_line.proofs.command_number.Goals as goal
 
 pub returns : goal.returns

@@ -1,5 +1,4 @@
 -- `commands_after` counts a command, where there is room for it, with what it leaves waiting; any other line changes no commands.
-use mathlib.Core.Path.{◌≡◌, ap, ◌∙◌}
 use native.Mathlib.Omega.{arith}
 use borrow.Author.Tests.{not-true, not-false}
 use Prim.Native.Nat.{◌<◌}

@@ -1,16 +1,14 @@
 -- The causes 5, 6 and 7 are judged first; a line that is about no load has no others.
-use mathlib.Core.Path.{◌≡◌, sym, ap, ◌∙◌, subst}
+use mathlib.Core.Path.{◌≡◌, ap, ◌∙◌, subst}
 use mathlib.Core.Bool.{cond}
 use mathlib.Core.List.{[]}
-use borrow.Author.Tests.{not-true, not-false}
 use Rattle.causes.specs.Checks.{number_by}
 use Rattle.command.specs.declared.traits.Traits.{Traits}
 use Rattle.command.specs.Asked.{traits_of}
 use Rattle.load.specs.Bitmap.{none_bad, staged_sum}
 use Rattle.take_line.specs.Line.{own_checks, staged_checks}
 use Rattle.take_line.specs.Judged.{JudgedAs}
-use Rattle.take_line.proofs.LineLaws.{judged_own, judged_other, judged_behind}
-use borrow.Author.Rules.{rules}
+use Rattle.take_line.proofs.LineLaws.{judged_own, judged_behind}
 use Rattle.take_line.proofs.judge.Goals.{After-command_number-number}
 use Rattle.take_line.proofs.judge.Goals as goal
 

@@ -2,17 +2,9 @@
 use mathlib.Core.Path.{sym, ap, ◌∙◌}
 use mathlib.Core.Bool.{cond}
 use Prim.Native.Nat.{ℕ}
-use borrow.Author.Tests.{not-true, not-false}
 use Rattle.command.specs.Asked.{sum_agrees}
 use Rattle.take_line.proofs.LineLaws.{judged_bad, judged_differs, judged_right}
-use borrow.Author.Rules.{rules}
 use Rattle.take_line.proofs.judge_staged.Goals as goal
-
-pub none_bad-requires : goal.none_bad-requires
-none_bad-requires c = search rules
-
-pub sum_agrees-requires : goal.sum_agrees-requires
-sum_agrees-requires c = search rules
 
 pub returns-then-not-none_bad : goal.returns-then-not-none_bad
 returns-then-not-none_bad c = judged_bad _ _ c.args.t c.requires.load_value _ (sym c.none_bad.ensures ∙ c.if-not-none_bad.true)

@@ -1,26 +1,8 @@
 -- Past 1 and 4 a line is refused by its command's checks with the error echo, or accepted.
-use mathlib.Core.Path.{◌≡◌, sym, ap, ◌∙◌}
-use Prim.Native.Nat.{ℕ}
-use mathlib.Core.Bool.{Bool, ◌&&◌, not, cond}
-use borrow.Author.Tests.{eq-eqb, ne_eqb}
-use lib.Dec.{eqb, leb}
-use lib.ListN.{length}
-use mathlib.Core.List.{List}
-use Rattle.causes.specs.Checks.{Check, number_by}
-use Rattle.command.specs.declared.command.Line.{Line}
-use Rattle.command.specs.Asked.{traits_of}
-use Rattle.command.specs.Grammar.{line_of}
-use Rattle.load.specs.Bitmap.{none_bad, staged_sum}
 use Rattle.load.proofs.StagingLaws.{addresses_are}
-use Rattle.command_list.specs.CommandList.{load_waits, commands_full}
 use Rattle.command_list.proofs.CommandListLaws.{commands_are}
-use Rattle.command.specs.declared.ranges.Ranges.{Ranges}
 use Rattle.state.specs.Limits.{ranges_of}
 use Rattle.state.proofs.LimitLaws.{state_limits}
-use Rattle.take_line.specs.Line.{state_checks, sum_returned, line_by}
-use Rattle.take_line.specs.Judged.{JudgedAs}
-use Rattle.take_line.proofs.LineLaws.{command_accepts, command_five, judged_same}
-use borrow.Author.Rules.{rules}
 use Rattle.take_line.proofs.take_line.Goals.{After-judge-judged, Start}
 use Rattle.take_line.proofs.take_line.Goals as goal
 

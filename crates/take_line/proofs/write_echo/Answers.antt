@@ -1,6 +1,5 @@
 -- The echo of an empty line is the prompt, of any other the accepted echo.
 use borrow.Author.Tests.{eq-eqb, ne_eqb}
-use borrow.Author.Rules.{rules}
 use Rattle.take_line.proofs.write_echo.Goals as goal
 
 pub returns-then-line-eq0 : goal.returns-then-line-eq0

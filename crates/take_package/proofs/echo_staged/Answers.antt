@@ -1,6 +1,5 @@
 -- The echo of a package has OK where its number is 0, and otherwise both sums.
 use borrow.Author.Tests.{eq-eqb, ne_eqb}
-use borrow.Author.Rules.{rules}
 use Rattle.take_package.proofs.echo_staged.Goals as goal
 
 pub returns-then-number-eq-CARRIED_OUT : goal.returns-then-number-eq-CARRIED_OUT

@@ -1,7 +1,6 @@
 -- `package_number` goes through the call's checks, then the package's own.
 use Rattle.load.specs.Staging.{package_number}
 use Rattle.take_package.specs.Package.{package_call_number}
-use borrow.Author.Rules.{rules}
 use Rattle.take_package.proofs.package_number.Goals as goal
 
 pub returns : goal.returns

@@ -1,10 +1,6 @@
 -- `stage` puts the bits of the bytes that it places, and puts the addresses that `place` moves into the state.
-use Prim.Native.Nat.{ℕ}
-use mathlib.Core.Path.{ap, ◌∙◌}
 use native.Mathlib.Omega.{arith}
-use Rattle.load.specs.Bitmap.{bitmap_after}
 use Rattle.load.proofs.StagingLaws.{placeable_formed, placeable_fits}
-use borrow.Author.Rules.{rules}
 use Rattle.take_package.proofs.stage.Goals as goal
 
 pub payload_bytes-many-requires : goal.payload_bytes-many-requires

@@ -1,9 +1,6 @@
 -- The sums that `added` has made are the table of the first totals with their counts added.
-use Prim.Native.Nat.{◌≤◌, ◌-◌, ◌+◌}
-use mathlib.Core.Path.{◌≡◌}
 use native.Mathlib.Omega.{arith}
-use lib.ListN.{length, get_or, take, length-set}
-use Rattle.wire.specs.Pieces.{table}
+use lib.ListN.{length-set}
 use Rattle.wire.proofs.Pieces.{table_none, table_turn, table_end}
 use borrow.Author.Rules.{rules}
 use Rattle.take_reading.proofs.added.Goals as goal

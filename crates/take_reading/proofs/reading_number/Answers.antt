@@ -1,6 +1,5 @@
 -- `reading_number` goes through the two checks of a reading in their order.
 use Rattle.take_reading.specs.Reading.{reading_number}
-use borrow.Author.Rules.{rules}
 use Rattle.take_reading.proofs.reading_number.Goals as goal
 
 pub returns : goal.returns

@@ -1,7 +1,6 @@
 -- `applied` changes the setting that a command names, and a load changes none.
 use mathlib.Core.Path.{sym, ap, ◌∙◌}
 use Rattle.command.specs.Change.{settings_after}
-use borrow.Author.Rules.{rules}
 use Rattle.command.proofs.apply.applied.Goals as goal
 
 pub returns-in-Set : goal.returns-in-Set

@@ -2,7 +2,6 @@
 use mathlib.Core.Path.{◌≡◌, sym, ap}
 use Rattle.command.specs.declared.command.Setting.{Setting}
 use Rattle.command.specs.Change.{changed}
-use borrow.Author.Rules.{rules}
 use Rattle.command.proofs.apply.changed.Goals.{Start}
 use Rattle.command.proofs.apply.changed.Goals as goal
 

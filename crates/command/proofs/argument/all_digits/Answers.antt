@@ -1,13 +1,8 @@
 -- `all_digits` stops at the first byte that is no digit.
-use Prim.Native.Nat.{◌≤◌, ◌-◌}
-use mathlib.Core.Path.{◌≡◌, sym, ◌∙◌}
+use mathlib.Core.Path.{sym, ◌∙◌}
 use native.Mathlib.Omega.{arith}
-use lib.ListN.{length, drop}
-use borrow.Author.Tests.{not-true, not-false}
-use Rattle.wire.specs.Lists.{all}
 use Rattle.wire.proofs.Lists.{all_stop, all_step, all_end}
 use Rattle.command.specs.Grammar.{is_digit}
-use borrow.Author.Rules.{rules}
 use Rattle.command.proofs.argument.all_digits.Goals as goal
 
 pub returns-then-not-is_digit : goal.returns-then-not-is_digit

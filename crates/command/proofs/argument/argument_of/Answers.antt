@@ -1,9 +1,8 @@
 -- `argument_of` takes a word of one to six digits for its value, and refuses every other.
 use mathlib.Core.Path.{sym, ◌∙◌}
 use native.Mathlib.Omega.{arith}
-use borrow.Author.Tests.{le-leb, lt-leb, not-true, not-false}
+use borrow.Author.Tests.{le-leb, lt-leb}
 use Rattle.command.specs.Grammar.{argument_of}
-use borrow.Author.Rules.{rules}
 use Rattle.command.proofs.argument.argument_of.Goals as goal
 
 pub returns-then-w-lt1 : goal.returns-then-w-lt1

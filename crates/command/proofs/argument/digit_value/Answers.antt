@@ -2,7 +2,6 @@
 use native.Mathlib.Omega.{arith}
 use borrow.Author.Tests.{le-leb, lt-leb}
 use Rattle.command.proofs.DigitLaws.{digit_low, digit_high}
-use borrow.Author.Rules.{rules}
 use Rattle.command.proofs.argument.digit_value.Goals as goal
 
 pub overflow_sub-result : goal.overflow_sub-result

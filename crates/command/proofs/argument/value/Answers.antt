@@ -1,12 +1,11 @@
 -- `value` takes the digits from the first on, and six of them stay below 16 to the sixth.
-use Prim.Native.Nat.{ℕ, ◌≤◌, ◌<◌, ◌+◌, ◌-◌, ◌*◌, ◌^◌}
-use mathlib.Core.Path.{◌≡◌, refl, sym, ap, ◌∙◌}
+use Prim.Native.Nat.{ℕ, ◌+◌, ◌*◌}
+use mathlib.Core.Path.{refl, sym, ap, ◌∙◌}
 use native.Mathlib.Omega.{arith}
-use lib.ListN.{length, drop}
-use Rattle.command.specs.Grammar.{is_digit, hex_behind, hex_value}
+use lib.ListN.{drop}
+use Rattle.command.specs.Grammar.{is_digit, hex_behind}
 use Rattle.wire.proofs.Lists.{all_get}
 use Rattle.command.proofs.DigitLaws.{hex_step, hex_end, hex_room}
-use borrow.Author.Rules.{rules}
 use Rattle.command.proofs.argument.value.Goals as goal
 
 pub loop-i-init : goal.loop-i-init

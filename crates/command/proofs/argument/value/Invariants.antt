@@ -1,12 +1,8 @@
 -- `value` takes the digits from the first on, and six of them stay below 16 to the sixth.
-use Prim.Native.Nat.{ℕ, ◌≤◌, ◌<◌, ◌+◌, ◌-◌, ◌*◌, ◌^◌}
-use mathlib.Core.Path.{◌≡◌, refl, sym, ap, ◌∙◌}
-use native.Mathlib.Omega.{arith}
+use Prim.Native.Nat.{◌≤◌, ◌<◌, ◌-◌, ◌^◌}
+use mathlib.Core.Path.{◌≡◌}
 use lib.ListN.{length, drop}
-use Rattle.command.specs.Grammar.{is_digit, hex_behind, hex_value}
-use Rattle.wire.proofs.Lists.{all_get}
-use Rattle.command.proofs.DigitLaws.{hex_step, hex_end, hex_room}
-use borrow.Author.Rules.{rules}
+use Rattle.command.specs.Grammar.{hex_behind, hex_value}
 use Rattle.command.proofs.argument.value.Given as goal
 
 abbrev pub invariant-loop-i : goal.invariant-loop-i

@@ -2,7 +2,6 @@
 use mathlib.Core.Path.{◌≡◌, sym, ap, ◌∙◌}
 use Rattle.command.specs.declared.command.Command.{Command}
 use Rattle.command.specs.Grammar.{command_ok}
-use borrow.Author.Rules.{rules}
 use Rattle.command.proofs.command.command_ok.Goals.{Start}
 use Rattle.command.proofs.command.command_ok.Goals as goal
 

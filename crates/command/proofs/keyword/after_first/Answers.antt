@@ -3,7 +3,6 @@ use mathlib.Core.Path.{sym, ap, ◌∙◌}
 use Rattle.command.specs.declared.argument.Argument.{Argument}
 use Rattle.command.specs.declared.argument.Argument.TheVariants.{Value}
 use Rattle.command.specs.Grammar.{three_arguments}
-use borrow.Author.Rules.{rules}
 use Rattle.command.proofs.keyword.after_first.Goals as goal
 
 pub returns-in-Value-l : goal.returns-in-Value-l

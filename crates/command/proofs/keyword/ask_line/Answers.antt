@@ -5,7 +5,6 @@ use mathlib.Core.Bool.{Bool}
 use borrow.Author.Tests.{lt-leb}
 use Rattle.command.specs.Grammar.{right_if}
 use Rattle.command.specs.declared.command.Line.TheVariants.{Ask}
-use borrow.Author.Rules.{rules}
 use Rattle.command.proofs.keyword.ask_line.Goals as goal
 
 pub returns-then-y : goal.returns-then-y

@@ -5,7 +5,6 @@ use mathlib.Core.Bool.{Bool}
 use borrow.Author.Tests.{lt-leb}
 use Rattle.command.specs.Grammar.{right_if}
 use Rattle.command.specs.declared.command.Line.TheVariants.{Commit}
-use borrow.Author.Rules.{rules}
 use Rattle.command.proofs.keyword.commit_line.Goals as goal
 
 pub returns-then-y : goal.returns-then-y

@@ -1,6 +1,5 @@
 -- `row` answers its own line where the two words are the same.
 use mathlib.Core.Path.{sym, ◌∙◌}
-use borrow.Author.Rules.{rules}
 use Rattle.command.proofs.keyword.row.Goals as goal
 
 pub returns-then-same : goal.returns-then-same

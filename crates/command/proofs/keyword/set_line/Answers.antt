@@ -1,7 +1,6 @@
 -- `set_line` gives the setting's line where the value is in its range.
 use borrow.Author.Tests.{le-leb, lt-leb}
 use Rattle.command.specs.Grammar.{right_if}
-use borrow.Author.Rules.{rules}
 use Rattle.command.proofs.keyword.set_line.Goals as goal
 
 pub returns-then-n-most_of : goal.returns-then-n-most_of

@@ -2,7 +2,6 @@
 use mathlib.Core.Path.{sym, ap, ◌∙◌}
 use Rattle.command.specs.declared.argument.Argument.{Argument}
 use Rattle.command.specs.Grammar.{three_arguments}
-use borrow.Author.Rules.{rules}
 use Rattle.command.proofs.keyword.three_arguments.Goals as goal
 
 pub returns-in-Value : goal.returns-in-Value

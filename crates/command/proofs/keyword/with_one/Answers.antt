@@ -1,6 +1,5 @@
 -- `with_one` is the table of keywords, row by row.
 use Rattle.command.specs.Grammar.{lookup_keyword, with_one}
-use borrow.Author.Rules.{rules}
 use Rattle.command.proofs.keyword.with_one.Goals as goal
 
 pub returns : goal.returns

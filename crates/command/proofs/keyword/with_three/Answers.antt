@@ -1,6 +1,5 @@
 -- `with_three` is the table of one row.
 use Rattle.command.specs.Grammar.{lookup_keyword, with_three}
-use borrow.Author.Rules.{rules}
 use Rattle.command.proofs.keyword.with_three.Goals as goal
 
 pub returns : goal.returns

@@ -1,6 +1,5 @@
 -- `with_two` is the table of one row.
 use Rattle.command.specs.Grammar.{lookup_keyword, with_two}
-use borrow.Author.Rules.{rules}
 use Rattle.command.proofs.keyword.with_two.Goals as goal
 
 pub returns : goal.returns

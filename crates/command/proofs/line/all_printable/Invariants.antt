@@ -1,13 +1,9 @@
 -- `all_printable` stops at the first byte out of range.
 use Prim.Native.Nat.{◌≤◌, ◌-◌}
-use mathlib.Core.Path.{◌≡◌, sym, ◌∙◌}
-use native.Mathlib.Omega.{arith}
+use mathlib.Core.Path.{◌≡◌}
 use lib.ListN.{length, drop}
-use borrow.Author.Tests.{not-true, not-false}
 use Rattle.wire.specs.Lists.{all}
-use Rattle.wire.proofs.Lists.{all_stop, all_step, all_end}
 use Rattle.command.specs.Grammar.{printable}
-use borrow.Author.Rules.{rules}
 use Rattle.command.proofs.line.all_printable.Given as goal
 
 abbrev pub invariant-loop-i : goal.invariant-loop-i

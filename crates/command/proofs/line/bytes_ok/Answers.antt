@@ -1,5 +1,4 @@
 -- `bytes_ok` judges the length before it reads a byte.
-use borrow.Author.Rules.{rules}
 use borrow.Author.Tests.{le-leb, lt-leb}
 use Rattle.command.proofs.line.bytes_ok.Goals as goal
 

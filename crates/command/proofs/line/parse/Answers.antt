@@ -11,7 +11,6 @@ use lib.Seq.{length-take-le}
 use Rattle.command.specs.Grammar.{line_words, one_argument, line_of}
 use Rattle.command.specs.Parsing.{more_words}
 use Rattle.command.proofs.WordLaws.{line_bare, line_one, line_more, rest_is}
-use borrow.Author.Rules.{rules}
 use Rattle.command.proofs.line.parse.Goals as goal
 
 pub returns-then-line-eq0 : goal.returns-then-line-eq0

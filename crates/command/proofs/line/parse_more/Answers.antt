@@ -8,7 +8,6 @@ use lib.Seq.{length-take-le}
 use Rattle.command.specs.declared.argument.Argument.{Argument}
 use Rattle.command.specs.Grammar.{two_arguments, three_arguments}
 use Rattle.command.proofs.WordLaws.{more_one, more_two, rest_is}
-use borrow.Author.Rules.{rules}
 use Rattle.command.proofs.line.parse_more.Goals as goal
 
 pub returns-then-rest-n : goal.returns-then-rest-n

@@ -2,7 +2,6 @@
 use mathlib.Core.Path.{sym, ap}
 use Rattle.command.specs.declared.traits.Sum.{Sum}
 use Rattle.command.specs.Asked.{sum_agrees}
-use borrow.Author.Rules.{rules}
 use Rattle.command.proofs.traits.sum_agrees.Goals as goal
 
 pub returns-in-Named : goal.returns-in-Named

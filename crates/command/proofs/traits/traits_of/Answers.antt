@@ -1,7 +1,6 @@
 -- `traits_of` gives each kind of line its traits.
 use mathlib.Core.Path.{sym, ap, ◌∙◌}
 use Rattle.command.specs.Asked.{traits_of}
-use borrow.Author.Rules.{rules}
 use Rattle.command.proofs.traits.traits_of.Goals as goal
 
 pub returns-in-Empty : goal.returns-in-Empty

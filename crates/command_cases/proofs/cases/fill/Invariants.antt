@@ -1,9 +1,7 @@
 -- `fill` writes every byte of the part, each made from the one before.
-use native.Mathlib.Omega.{arith}
 use mathlib.Core.Path.{◌≡◌}
-use lib.ListN.{length, length-set}
+use lib.ListN.{length}
 use Prim.Native.Nat.{◌≤◌, ◌-◌}
-use borrow.Author.Rules.{rules}
 use Rattle.command_cases.proofs.cases.fill.Given as goal
 
 abbrev pub invariant-loop-i : goal.invariant-loop-i

@@ -1,6 +1,5 @@
 -- `load_into` runs a load only where it is lawful.
 use mathlib.Core.Path.{sym, ◌∙◌}
-use borrow.Author.Tests.{not-false}
 use borrow.Author.Rules.{rules}
 use Rattle.command_cases.proofs.cases.load_into.Goals as goal
 

@@ -3,7 +3,6 @@ use mathlib.Core.Path.{◌≡◌, ◌∙◌}
 use mathlib.Core.Bool.{true}
 use Rattle.load.specs.Staging.{placeable}
 use Rattle.load.proofs.StagingLaws.{number_placeable, placeable_formed}
-use borrow.Author.Rules.{rules}
 use Rattle.command_cases.proofs.cases.package.Goals.{Else-n-eq-PAST_STAGING}
 use Rattle.command_cases.proofs.cases.package.Goals as goal
 

@@ -1,9 +1,7 @@
 -- `decode` reads two digits for each byte, and stops where they end or the buffer is full.
 use Prim.Native.Nat.{◌≤◌, ◌-◌}
 use mathlib.Core.Path.{◌≡◌}
-use native.Mathlib.Omega.{arith}
-use lib.ListN.{length, length-set}
-use borrow.Author.Rules.{rules}
+use lib.ListN.{length}
 use Rattle.command_cases.proofs.input.decode.Given as goal
 
 abbrev pub invariant-loop-n : goal.invariant-loop-n

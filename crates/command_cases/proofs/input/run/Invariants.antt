@@ -1,7 +1,6 @@
 -- `run` takes line after line, and each ends behind where it began.
 use Prim.Native.Nat.{◌-◌}
 use lib.ListN.{length}
-use borrow.Author.Rules.{rules}
 use Rattle.command_cases.proofs.input.run.Given as goal
 
 abbrev pub invariant-loop-at : goal.invariant-loop-at

@@ -1,7 +1,6 @@
 -- `run_line` hands on no more bytes than it decoded.
 use mathlib.Core.Path.{sym}
 use lib.Seq.{length-take-le}
-use borrow.Author.Rules.{rules}
 use Rattle.command_cases.proofs.input.run_line.Goals as goal
 
 pub slice_bounds-case-end : goal.slice_bounds-case-end

@@ -1,7 +1,6 @@
 -- `bytes` prints the bytes one after the other.
 use lib.ListN.{length}
 use Prim.Native.Nat.{◌≤◌, ◌-◌}
-use borrow.Author.Rules.{rules}
 use Rattle.command_cases.proofs.output.bytes.Given as goal
 
 abbrev pub invariant-loop-i : goal.invariant-loop-i

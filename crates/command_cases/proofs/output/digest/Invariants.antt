@@ -1,7 +1,6 @@
 -- `digest` goes through the bytes and stays below its modulus.
 use lib.ListN.{length}
 use Prim.Native.Nat.{◌≤◌, ◌<◌, ◌-◌}
-use borrow.Author.Rules.{rules}
 use Rattle.command_cases.proofs.output.digest.Given as goal
 
 abbrev pub invariant-loop-i : goal.invariant-loop-i

@@ -1,5 +1,4 @@
 -- `beacon_good` asks of codes, unused bytes and marks what a beacon packet's definition asks, in its order.
-use borrow.Author.Rules.{rules}
 use Rattle.decode.specs.Read.{beacon_good}
 use Rattle.decode.proofs.faults.beacon_good.Goals as goal
 

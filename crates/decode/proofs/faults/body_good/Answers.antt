@@ -1,5 +1,4 @@
 -- `body_good` asks each kind's own test, and none passes for no kind.
-use borrow.Author.Rules.{rules}
 use Rattle.decode.specs.Read.{body_good}
 use Rattle.decode.proofs.faults.body_good.Goals as goal
 

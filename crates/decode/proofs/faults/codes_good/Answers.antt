@@ -1,7 +1,5 @@
 -- `codes_good` has tested, after i turns, the first i codes.
-use borrow.Author.Rules.{rules}
-use Prim.Native.Nat.{◌≤◌, ◌-◌}
-use mathlib.Core.Path.{◌≡◌, ap, ◌∙◌}
+use mathlib.Core.Path.{ap, ◌∙◌}
 use native.Mathlib.Omega.{arith}
 use Rattle.rate_code.specs.Editions.{valid_by}
 use Rattle.decode.specs.Read.{mark_of, codes_good}

@@ -1,11 +1,7 @@
 -- `codes_good` has tested, after i turns, the first i codes.
-use borrow.Author.Rules.{rules}
 use Prim.Native.Nat.{◌≤◌, ◌-◌}
-use mathlib.Core.Path.{◌≡◌, ap, ◌∙◌}
-use native.Mathlib.Omega.{arith}
-use Rattle.rate_code.specs.Editions.{valid_by}
-use Rattle.decode.specs.Read.{mark_of, codes_good}
-use Rattle.wire.proofs.Pieces.{each_start, each_turn, each_end}
+use mathlib.Core.Path.{◌≡◌}
+use Rattle.decode.specs.Read.{codes_good}
 use Rattle.decode.proofs.faults.codes_good.Given as goal
 
 abbrev pub invariant-loop-i : goal.invariant-loop-i

@@ -1,5 +1,4 @@
 -- `fields_good` reads the three header words and the zero, and asks of them what the definition asks.
-use borrow.Author.Rules.{rules}
 use Rattle.decode.specs.Read.{fields_good}
 use Rattle.decode.proofs.faults.fields_good.Goals as goal
 

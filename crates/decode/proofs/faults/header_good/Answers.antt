@@ -1,5 +1,4 @@
 -- `header_good` looks at the fields and the kind only where there are 272 bytes, and otherwise the definition is false too.
-use borrow.Author.Rules.{rules}
 use mathlib.Core.Path.{ap, ◌∙◌}
 use borrow.Author.Tests.{eq-eqb, ne_eqb}
 use Rattle.decode.specs.Read.{is_kind, kind_of, header_good}

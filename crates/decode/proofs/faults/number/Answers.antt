@@ -1,8 +1,6 @@
 -- `number` puts the three tests in a row, the last two only where there is a header, and so 272 bytes.
-use borrow.Author.Rules.{rules}
 use mathlib.Core.Path.{◌≡◌, sym, ap, ◌∙◌}
 use mathlib.Core.Bool.{true}
-use borrow.Author.Tests.{not-true, not-false}
 use Rattle.decode.specs.declared.kind.Kind.{Kind}
 use Rattle.decode.specs.Read.{header_good, kind_of, body_good, read_number}
 use Rattle.decode.proofs.Reading.{header_length}

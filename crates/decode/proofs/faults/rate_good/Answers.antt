@@ -1,5 +1,4 @@
 -- `rate_good` asks of codes, gap, flags, LIMHI and marks what a rate packet's definition asks, in its order.
-use borrow.Author.Rules.{rules}
 use Rattle.decode.specs.Read.{rate_good}
 use Rattle.decode.proofs.faults.rate_good.Goals as goal
 

@@ -1,10 +1,7 @@
 -- `records_good` has tested, after i turns, the first i records.
-use borrow.Author.Rules.{rules}
 use Prim.Native.Nat.{◌≤◌, ◌-◌}
 use mathlib.Core.Path.{◌≡◌}
-use native.Mathlib.Omega.{arith}
 use Rattle.decode.specs.Read.{records_good}
-use Rattle.wire.proofs.Pieces.{each_start, each_turn, each_end}
 use Rattle.decode.proofs.faults.records_good.Given as goal
 
 abbrev pub invariant-loop-i : goal.invariant-loop-i

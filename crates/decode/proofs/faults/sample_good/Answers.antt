@@ -1,5 +1,4 @@
 -- `sample_good` compares the application number with that of p, and asks the rest as the definition does.
-use borrow.Author.Rules.{rules}
 use Rattle.decode.specs.Read.{sample_good}
 use Rattle.decode.proofs.faults.sample_good.Goals as goal
 

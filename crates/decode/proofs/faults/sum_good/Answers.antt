@@ -1,5 +1,4 @@
 -- `sum_good` compares the last byte with the byte sum of the part before it.
-use borrow.Author.Rules.{rules}
 use Rattle.decode.specs.Read.{sum_good}
 use Rattle.decode.proofs.faults.sum_good.Goals as goal
 

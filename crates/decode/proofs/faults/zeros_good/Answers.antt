@@ -1,7 +1,5 @@
 -- `zeros_good` has tested, after i turns, the first i bytes.
-use borrow.Author.Rules.{rules}
-use Prim.Native.Nat.{◌≤◌, ◌-◌}
-use mathlib.Core.Path.{◌≡◌, refl}
+use mathlib.Core.Path.{refl}
 use native.Mathlib.Omega.{arith}
 use Rattle.decode.specs.Read.{zeros_good}
 use Rattle.wire.proofs.Pieces.{each_start, each_turn, each_end}

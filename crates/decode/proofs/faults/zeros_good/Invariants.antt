@@ -1,10 +1,7 @@
 -- `zeros_good` has tested, after i turns, the first i bytes.
-use borrow.Author.Rules.{rules}
 use Prim.Native.Nat.{◌≤◌, ◌-◌}
-use mathlib.Core.Path.{◌≡◌, refl}
-use native.Mathlib.Omega.{arith}
+use mathlib.Core.Path.{◌≡◌}
 use Rattle.decode.specs.Read.{zeros_good}
-use Rattle.wire.proofs.Pieces.{each_start, each_turn, each_end}
 use Rattle.decode.proofs.faults.zeros_good.Given as goal
 
 abbrev pub invariant-loop-i : goal.invariant-loop-i

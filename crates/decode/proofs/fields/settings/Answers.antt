@@ -1,5 +1,4 @@
 -- `settings` reads each field from its place, and each flag is a bit of one byte.
-use borrow.Author.Rules.{rules}
 use Rattle.decode.specs.Read.{settings_of}
 use Rattle.decode.proofs.fields.settings.Goals as goal
 

@@ -1,5 +1,4 @@
 -- `kind_of` goes through the application numbers in the definition's order.
-use borrow.Author.Rules.{rules}
 use borrow.Author.Tests.{eq-eqb, ne_eqb}
 use mathlib.Core.Path.{sym}
 use Rattle.decode.specs.Read.{kind_of}

@@ -1,5 +1,4 @@
 -- `accepted` reads header and frame from their places.
-use borrow.Author.Rules.{rules}
 use Rattle.ground.specs.Ground.{accepted}
 use Rattle.ground.proofs.contents.accepted.Goals as goal
 

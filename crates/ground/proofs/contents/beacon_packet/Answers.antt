@@ -1,5 +1,4 @@
 -- `beacon_packet` reads the codes, valid ones in an accepted packet, and leaves all else zero.
-use borrow.Author.Rules.{rules}
 use native.Mathlib.Omega.{arith}
 use Rattle.decode.proofs.Reading.{beacon_codes}
 use Rattle.ground.specs.Ground.{contents}

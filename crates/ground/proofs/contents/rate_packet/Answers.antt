@@ -1,5 +1,4 @@
 -- `rate_packet` reads the codes, valid ones in an accepted packet, the settings and the table sum.
-use borrow.Author.Rules.{rules}
 use native.Mathlib.Omega.{arith}
 use Rattle.decode.proofs.Reading.{rate_codes}
 use Rattle.ground.specs.Ground.{contents}

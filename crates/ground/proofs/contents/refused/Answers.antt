@@ -1,5 +1,4 @@
 -- `refused` gives the number, and zeros.
-use borrow.Author.Rules.{rules}
 use Rattle.ground.specs.Ground.{refused}
 use Rattle.ground.proofs.contents.refused.Goals as goal
 

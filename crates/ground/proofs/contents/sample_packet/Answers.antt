@@ -1,5 +1,4 @@
 -- `sample_packet` reads p from its byte, and leaves all else zero.
-use borrow.Author.Rules.{rules}
 use Rattle.ground.specs.Ground.{contents}
 use Rattle.ground.proofs.contents.sample_packet.Goals as goal
 

@@ -1,5 +1,4 @@
 -- `address_listed` compares the address with that of its place, where the place is one of the 250.
-use borrow.Author.Rules.{rules}
 use Prim.Native.Nat.{ℕ}
 use mathlib.Core.Path.{sym, ap, ◌∙◌}
 use lib.Dec.{ltb}

@@ -1,5 +1,4 @@
 -- `listing_header` looks at the fields and the number only where there are 272 bytes, and otherwise the definition is false too.
-use borrow.Author.Rules.{rules}
 use borrow.Author.Tests.{eq-eqb, ne_eqb}
 use Rattle.listing_packet.specs.Listing.{listing_header}
 use Rattle.listing_packet.proofs.judge.listing_header.Goals as goal

@@ -1,8 +1,7 @@
 -- `number` puts the five tests in a row, each only where those before it are passed.
-use borrow.Author.Rules.{rules}
 use mathlib.Core.Path.{◌≡◌, sym, ◌∙◌}
 use mathlib.Core.Bool.{true}
-use borrow.Author.Tests.{eq-eqb, ne_eqb, not-true, not-false}
+use borrow.Author.Tests.{eq-eqb, ne_eqb}
 use lib.Dec.{eqb}
 use Rattle.tables.specs.Tables.{table_bytes}
 use Rattle.decode.specs.Read.{sum_good}

@@ -1,5 +1,4 @@
 -- `rest_zero` looks at the three bytes behind the header and at those behind the words of the packet's place.
-use borrow.Author.Rules.{rules}
 use native.Mathlib.Omega.{arith}
 use Rattle.listing_packet.specs.Listing.{rest_zero}
 use Rattle.listing_packet.proofs.ListingLaws.{listed_place}

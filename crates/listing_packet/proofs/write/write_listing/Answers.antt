@@ -1,5 +1,4 @@
 -- `write_listing` puts place and words behind the header, and the sum behind all: the listing packet.
-use borrow.Author.Rules.{rules}
 use mathlib.Core.Path.{refl}
 use native.Mathlib.Omega.{arith}
 use mathlib.Core.List.{◌++◌}

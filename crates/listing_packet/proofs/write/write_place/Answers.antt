@@ -1,5 +1,4 @@
 -- `write_place` puts three zeros, the frame and the address in a row.
-use borrow.Author.Rules.{rules}
 use mathlib.Core.Path.{refl}
 use native.Mathlib.Omega.{arith}
 use Rattle.wire.proofs.Bytes.{then}

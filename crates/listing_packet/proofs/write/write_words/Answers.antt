@@ -1,5 +1,4 @@
 -- `write_words` puts the tables' bytes and zeros behind them: the packet's piece.
-use borrow.Author.Rules.{rules}
 use Rattle.listing_packet.proofs.ListingLaws.{words_written}
 use Rattle.listing_packet.proofs.write.write_words.Goals as goal
 

@@ -1,11 +1,8 @@
 -- `none_bad` has found, from the whole bytes on and then turn by turn, whether none of the first i staged bytes is bad.
-use borrow.Author.Rules.{rules}
-use Prim.Native.Nat.{◌≤◌, ◌-◌}
-use mathlib.Core.Path.{◌≡◌, ap}
+use mathlib.Core.Path.{ap}
 use mathlib.Core.Bool.{not}
 use native.Mathlib.Omega.{arith}
 use Rattle.wire.proofs.Pieces.{each_turn, each_end}
-use Rattle.load.specs.Bitmap.{none_bad}
 use Rattle.load.proofs.bitmap.none_bad.Goals as goal
 
 pub loop-i-init : goal.loop-i-init

@@ -1,10 +1,7 @@
 -- `none_whole` has found, after i turns, whether none of the first 8 i staged bytes is bad.
-use borrow.Author.Rules.{rules}
-use Prim.Native.Nat.{◌≤◌, ◌-◌, ◌*◌}
-use mathlib.Core.Path.{◌≡◌, ap, ◌∙◌}
+use Prim.Native.Nat.{◌*◌}
 use native.Mathlib.Omega.{arith}
 use Rattle.wire.proofs.Pieces.{each_start, each_end}
-use Rattle.load.specs.Bitmap.{none_bad}
 use Rattle.load.proofs.BitmapLaws.{none_byte}
 use Rattle.load.proofs.bitmap.none_whole.Goals as goal
 

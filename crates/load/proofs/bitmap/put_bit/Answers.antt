@@ -1,8 +1,7 @@
 -- `put_bit` writes the byte of the bit anew, with the one bit set or cleared.
-use mathlib.Core.Path.{◌≡◌, ap}
-use Prim.Native.Nat.{ℕ, ◌/◌}
+use mathlib.Core.Path.{ap}
+use Prim.Native.Nat.{◌/◌}
 use lib.ListN.{set}
-use borrow.Author.Rules.{rules}
 use Rattle.load.proofs.bitmap.put_bit.Goals as goal
 
 pub returns : goal.returns

@@ -1,5 +1,4 @@
 -- `put_bits` puts the bits before the whole bytes, those, and the bits behind them.
-use borrow.Author.Rules.{rules}
 use Prim.Native.Nat.{ℕ, ◌+◌, ◌-◌, ◌*◌, ◌/◌}
 use native.Mathlib.Omega.{arith}
 use Rattle.load.proofs.BitmapLaws.{then_bitmap}

@@ -1,12 +1,8 @@
 -- `put_each` has put, after i turns, the bits of the first i staged bytes.
-use borrow.Author.Rules.{rules}
-use Prim.Native.Nat.{ℕ, ◌≤◌, ◌-◌, ◌+◌, ◌/◌}
-use mathlib.Core.Path.{◌≡◌, refl, ap, ◌∙◌}
-use native.Mathlib.Omega.{arith}
-use native.Mathlib.Numerals.{add-one}
-use mathlib.Core.List.{List}
-use lib.ListN.{length, length-set}
-use Rattle.load.specs.Bitmap.{with_bad, bitmap_after}
+use Prim.Native.Nat.{◌≤◌, ◌-◌}
+use mathlib.Core.Path.{◌≡◌}
+use lib.ListN.{length}
+use Rattle.load.specs.Bitmap.{bitmap_after}
 use Rattle.load.proofs.bitmap.put_each.Given as goal
 
 abbrev pub invariant-loop-i : goal.invariant-loop-i

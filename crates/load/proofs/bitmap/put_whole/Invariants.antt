@@ -1,12 +1,8 @@
 -- `put_whole` has put, after i turns, i whole bytes of the bitmap.
-use borrow.Author.Rules.{rules}
-use Prim.Native.Nat.{ℕ, ◌≤◌, ◌-◌, ◌+◌, ◌*◌}
-use mathlib.Core.Path.{◌≡◌, refl, ap, ◌∙◌}
-use mathlib.Core.List.{List}
-use native.Mathlib.Omega.{arith}
+use Prim.Native.Nat.{◌≤◌, ◌-◌, ◌*◌}
+use mathlib.Core.Path.{◌≡◌}
 use lib.ListN.{length}
 use Rattle.load.specs.Bitmap.{bitmap_after}
-use Rattle.load.proofs.BitmapLaws.{then_bitmap, length_bitmap}
 use Rattle.load.proofs.bitmap.put_whole.Given as goal
 
 abbrev pub invariant-loop-i : goal.invariant-loop-i

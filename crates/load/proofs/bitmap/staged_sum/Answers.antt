@@ -2,7 +2,6 @@
 use mathlib.Core.Path.{sym}
 use native.Mathlib.Omega.{arith}
 use lib.Seq.{length-take-le}
-use borrow.Author.Rules.{rules}
 use Rattle.load.proofs.bitmap.staged_sum.Goals as goal
 
 pub slice_bounds-long_sum-end : goal.slice_bounds-long_sum-end

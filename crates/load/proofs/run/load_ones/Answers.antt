@@ -1,13 +1,11 @@
 -- After k turns `load_ones` has put the first k words.
-use Prim.Native.Nat.{ℕ, ◌≤◌, ◌+◌, ◌-◌, ◌*◌}
+use Prim.Native.Nat.{ℕ, ◌+◌, ◌*◌}
 use mathlib.Core.Path.{◌≡◌, refl, ap, ◌∙◌}
 use native.Mathlib.Omega.{arith}
-use lib.ListN.{length}
-use Rattle.wire.specs.Bytes.{put, be24}
+use Rattle.wire.specs.Bytes.{put}
 use Rattle.wire.proofs.Bytes.{put_nil}
 use Rattle.load.specs.Load.{packed_words}
 use Rattle.load.proofs.LoadLaws.{word_more, packed_one_byte}
-use borrow.Author.Rules.{rules}
 use Rattle.load.proofs.run.load_ones.Goals as goal
 
 pub loop-k-init : goal.loop-k-init

@@ -1,11 +1,10 @@
 -- `load_threes` copies the bytes of the words.
 use Prim.Native.Nat.{◌*◌}
-use mathlib.Core.Path.{◌≡◌, sym, ap, ◌∙◌}
+use mathlib.Core.Path.{sym, ap, ◌∙◌}
 use native.Mathlib.Omega.{arith}
 use lib.Seq.{length-take-le}
 use Rattle.wire.specs.Bytes.{put}
 use Rattle.load.proofs.LoadLaws.{packed_threes}
-use borrow.Author.Rules.{rules}
 use Rattle.load.proofs.run.load_threes.Goals as goal
 
 pub slice_bounds-put_bytes-end : goal.slice_bounds-put_bytes-end

@@ -6,7 +6,6 @@ use lib.ListN.{length}
 use Rattle.wire.specs.Bytes.{put}
 use Rattle.load.specs.Load.{word_width, packed_words}
 use Rattle.load.proofs.LoadLaws.{width_two}
-use borrow.Author.Rules.{rules}
 use Rattle.load.proofs.run.load_whole.Goals as goal
 
 pub load_threes-requires : goal.load_threes-requires

@@ -7,7 +7,6 @@ use lib.ListN.{take, drop}
 use Rattle.wire.specs.Bytes.{put, zeros}
 use Rattle.wire.specs.Pieces.{padded}
 use Rattle.wire.proofs.Lists.{part_of_reach}
-use borrow.Author.Rules.{rules}
 use Rattle.load.proofs.run.load_word.Goals as goal
 
 pub returns : goal.returns

@@ -7,7 +7,6 @@ use lib.ListN.{length, length-append, length-replicate}
 use Rattle.wire.specs.Bytes.{put, zeros}
 use Rattle.wire.specs.Pieces.{padded}
 use Rattle.wire.proofs.Bytes.{then}
-use borrow.Author.Rules.{rules}
 use Rattle.load.proofs.run.put_packed.Goals as goal
 
 pub returns : goal.returns

@@ -9,7 +9,6 @@ use lib.Seq.{length-take-le}
 use Rattle.wire.specs.Bytes.{put}
 use Rattle.load.specs.Load.{word_width, load_words, packed_word, packed_words, loaded}
 use Rattle.load.proofs.LoadLaws.{lawful_is, lawful_reach, width_small, words_whole, word_more}
-use borrow.Author.Rules.{rules}
 use Rattle.load.proofs.run.run_load.Goals as goal
 
 pub overflow_sub-at : goal.overflow_sub-at

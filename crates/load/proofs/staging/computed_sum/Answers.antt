@@ -2,7 +2,6 @@
 use Prim.Native.Nat.{ℕ, ◌%◌}
 use mathlib.Core.Path.{ap, ◌∙◌}
 use Rattle.wire.specs.Bytes.{total}
-use borrow.Author.Rules.{rules}
 use Rattle.load.proofs.staging.computed_sum.Goals as goal
 
 pub returns : goal.returns

@@ -1,7 +1,6 @@
 -- `is_formed` reads the count only of a package that has one, and compares it with the bytes that came.
 use borrow.Author.Tests.{le-leb, lt-leb}
 use Rattle.load.specs.Staging.{formed}
-use borrow.Author.Rules.{rules}
 use Rattle.load.proofs.staging.is_formed.Goals as goal
 
 pub returns-then-p-lt2 : goal.returns-then-p-lt2

@@ -1,7 +1,6 @@
 -- `judge` goes through the checks of a package in their order, the last two where the package is well formed.
 use mathlib.Core.Path.{◌≡◌, sym, ◌∙◌}
 use mathlib.Core.Bool.{true}
-use borrow.Author.Rules.{rules}
 use Rattle.load.specs.Staging.{formed, package_number}
 use Rattle.load.proofs.staging.judge.Goals.{Else-not-is_formed}
 use Rattle.load.proofs.staging.judge.Goals as goal

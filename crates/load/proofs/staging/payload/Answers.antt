@@ -5,7 +5,6 @@ use mathlib.Core.Path.{◌≡◌, ap, ◌∙◌}
 use native.Mathlib.Omega.{arith}
 use lib.ListN.{length, take, drop}
 use Rattle.load.proofs.StagingLaws.{formed_is, length_payload}
-use borrow.Author.Rules.{rules}
 use Rattle.load.proofs.staging.payload.Goals as goal
 
 pub u16_at-n-requires : goal.u16_at-n-requires

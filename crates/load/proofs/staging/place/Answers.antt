@@ -5,7 +5,6 @@ use mathlib.Core.Path.{ap, ◌∙◌}
 use native.Mathlib.Omega.{arith}
 use Rattle.load.specs.Staging.{staging_after}
 use Rattle.load.proofs.StagingLaws.{placeable_formed, placeable_fits}
-use borrow.Author.Rules.{rules}
 use Rattle.load.proofs.staging.place.Goals as goal
 
 pub payload-requires : goal.payload-requires

@@ -3,7 +3,6 @@ use mathlib.Core.Path.{ap, ◌∙◌}
 use native.Mathlib.Omega.{arith}
 use Rattle.wire.specs.Bytes.{at16}
 use Rattle.load.proofs.StagingLaws.{formed_is}
-use borrow.Author.Rules.{rules}
 use Rattle.load.proofs.staging.received_sum.Goals as goal
 
 pub u16_at-n-requires : goal.u16_at-n-requires

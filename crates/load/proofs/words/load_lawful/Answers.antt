@@ -3,7 +3,6 @@ use Rattle.load.specs.Load.{load_lawful}
 use mathlib.Core.Path.{refl}
 use native.Mathlib.Omega.{arith}
 use Rattle.load.proofs.LoadLaws.{words_few}
-use borrow.Author.Rules.{rules}
 use Rattle.load.proofs.words.load_lawful.Goals as goal
 
 pub overflow_add-result : goal.overflow_add-result

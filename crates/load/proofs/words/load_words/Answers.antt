@@ -1,7 +1,6 @@
 -- `load_words` divides by the width and rounds up.
 use Prim.Native.Nat.{ℕ, ◌+◌, ◌-◌, ◌/◌}
 use mathlib.Core.Path.{ap}
-use borrow.Author.Rules.{rules}
 use Rattle.load.proofs.words.load_words.Goals as goal
 
 pub returns : goal.returns

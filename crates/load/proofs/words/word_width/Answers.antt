@@ -2,7 +2,6 @@
 use mathlib.Core.Path.{sym}
 use native.Mathlib.Omega.{arith}
 use Rattle.load.proofs.LoadLaws.{width_two}
-use borrow.Author.Rules.{rules}
 use Rattle.load.proofs.words.word_width.Goals as goal
 
 pub returns : goal.returns

@@ -1,5 +1,4 @@
 -- `write_header` puts three words, the time and a zero in a row from the part's start.
-use borrow.Author.Rules.{rules}
 use mathlib.Core.Path.{refl}
 use native.Mathlib.Omega.{arith}
 use Rattle.wire.proofs.Bytes.{then}

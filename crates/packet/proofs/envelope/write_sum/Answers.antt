@@ -1,5 +1,4 @@
 -- `write_sum` puts the byte sum behind the 271 bytes that it was taken of.
-use borrow.Author.Rules.{rules}
 use Prim.Native.Nat.{ℕ, ◌%◌}
 use mathlib.Core.Path.{ap}
 use Rattle.packet.proofs.Written.{sum_written}

@@ -1,11 +1,8 @@
 -- `add_row` has added, after j turns, the first j bytes of the row, and left the other columns as they were.
-use borrow.Author.Rules.{rules}
-use Prim.Native.Nat.{ℕ, ◌≤◌, ◌-◌, ◌+◌}
-use mathlib.Core.Path.{◌≡◌, refl, ◌∙◌}
+use mathlib.Core.Path.{refl, ◌∙◌}
 use native.Mathlib.Omega.{arith}
-use lib.ListN.{length, get_or, take, length-set}
+use lib.ListN.{length-set}
 use lib.Seq.{get_or-set_other}
-use Rattle.wire.specs.Pieces.{table}
 use Rattle.wire.proofs.Pieces.{table_none, table_turn, table_end}
 use Rattle.packet.specs.TableSum.{added_row}
 use Rattle.packet.proofs.table_sum.add_row.Goals as goal

@@ -1,12 +1,7 @@
 -- `table_sum` has added, after k turns, the words of the first k blocks; the last three words are added behind the loop.
-use borrow.Author.Rules.{rules}
-use Prim.Native.Nat.{ℕ, ◌≤◌, ◌-◌, ◌+◌, ◌*◌, ◌%◌}
-use mathlib.Core.List.{List}
-use mathlib.Core.Path.{◌≡◌, sym, ap, ◌∙◌}
-use native.Mathlib.Omega.{arith}
-use Rattle.tables.specs.Tables.{first, table_words, word_at}
-use Rattle.packet.specs.TableSum.{word_sum, table_sum}
-use Rattle.packet.proofs.WordSums.{no_words, first_more, words_split, words_by_address}
+use Prim.Native.Nat.{◌≤◌, ◌-◌, ◌*◌}
+use mathlib.Core.Path.{◌≡◌}
+use Rattle.packet.specs.TableSum.{word_sum}
 use Rattle.packet.proofs.table_sum.table_sum.Given as goal
 
 abbrev pub invariant-loop-k : goal.invariant-loop-k

@@ -1,11 +1,7 @@
 -- `weighed` has added, after k turns, the first k words of the columns.
-use borrow.Author.Rules.{rules}
-use Prim.Native.Nat.{◌≤◌, ◌-◌, ◌+◌, ◌*◌}
-use mathlib.Core.Path.{◌≡◌, ap, sym, ◌∙◌}
-use native.Mathlib.Omega.{arith}
-use lib.ListN.{get_or}
+use Prim.Native.Nat.{◌≤◌, ◌-◌, ◌*◌}
+use mathlib.Core.Path.{◌≡◌}
 use Rattle.packet.specs.TableSum.{word_sum}
-use Rattle.packet.proofs.WordSums.{no_words, first_more}
 use Rattle.packet.proofs.table_sum.weighed.Given as goal
 
 abbrev pub invariant-loop-k : goal.invariant-loop-k

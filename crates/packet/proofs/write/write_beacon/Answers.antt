@@ -1,5 +1,4 @@
 -- `write_beacon` puts codes and then zeros from byte 11 to the frame: the body of the beacon packet.
-use borrow.Author.Rules.{rules}
 use Prim.Native.Nat.{ℕ, ◌*◌}
 use mathlib.Core.Path.{◌≡◌, sym, ap, ◌∙◌}
 use mathlib.Core.List.{List, ◌++◌}

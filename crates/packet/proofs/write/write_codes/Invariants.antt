@@ -1,17 +1,10 @@
 -- `write_codes` has put, after i turns, the second edition's codes of the first i counts one behind the other.
-use borrow.Author.Rules.{rules}
-use Prim.Native.Nat.{ℕ, ◌≤◌, ◌-◌, ◌+◌, ◌*◌}
-use mathlib.Core.Path.{◌≡◌, refl, sym, ap, ◌∙◌}
-use mathlib.Core.List.{List, ◌++◌}
-use native.Mathlib.Omega.{arith}
+use Prim.Native.Nat.{◌≤◌, ◌-◌}
+use mathlib.Core.Path.{◌≡◌}
 use lib.ListN.{length, take}
-use lib.Seq.{take_all}
-use Rattle.wire.specs.Bytes.{put, be16}
-use Rattle.wire.proofs.Bytes.{then, put_nil}
+use Rattle.wire.specs.Bytes.{put}
 use Rattle.rate_code.specs.Editions.{second_mark}
 use Rattle.packet.specs.Packet.{codes}
-use Rattle.wire.specs.Pieces.{runs}
-use Rattle.packet.proofs.Written.{codes_take, length_codes_take}
 use Rattle.packet.proofs.write.write_codes.Given as goal
 
 abbrev pub invariant-loop-i : goal.invariant-loop-i

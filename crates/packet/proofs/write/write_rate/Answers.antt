@@ -1,5 +1,4 @@
 -- `write_rate` puts codes, settings and table sum in a row from byte 11 on: the body of the rate packet.
-use borrow.Author.Rules.{rules}
 use Prim.Native.Nat.{ℕ, ◌*◌}
 use mathlib.Core.Path.{◌≡◌, sym, ap, ◌∙◌}
 use mathlib.Core.List.{List, ◌++◌}

@@ -1,5 +1,4 @@
 -- `write_samples` puts the record words from byte 11 on: the body of the sample packet.
-use borrow.Author.Rules.{rules}
 use mathlib.Core.Path.{ap, ◌∙◌}
 use Prim.Native.Nat.{ℕ}
 use Rattle.wire.specs.Bytes.{words}

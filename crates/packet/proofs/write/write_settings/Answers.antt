@@ -1,5 +1,4 @@
 -- `write_settings` puts a zero, hvstep, the flags, LIMHI and the sum in a row.
-use borrow.Author.Rules.{rules}
 use Prim.Native.Nat.{ℕ}
 use mathlib.Core.Path.{refl, ap, ◌∙◌}
 use mathlib.Core.List.{◌++◌}

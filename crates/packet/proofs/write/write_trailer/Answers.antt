@@ -1,5 +1,4 @@
 -- `write_trailer` puts the frame and two bytes in a row.
-use borrow.Author.Rules.{rules}
 use mathlib.Core.Path.{refl}
 use native.Mathlib.Omega.{arith}
 use Rattle.wire.proofs.Bytes.{then}

@@ -1,12 +1,9 @@
 -- `fill_counts` writes inside the slice, and every count that it writes is below 2^24.
-use borrow.Author.Rules.{rules}
 use lib.Pow.{shr_le}
 use Rattle.packet_cases.proofs.Laws.{set_below}
-use Prim.Native.Nat.{◌≤◌, ◌<◌, ◌-◌, ◌%◌}
-use mathlib.Core.Path.{◌≡◌}
+use Prim.Native.Nat.{◌%◌}
 use native.Mathlib.Omega.{arith}
-use lib.ListN.{length, length-set}
-use Rattle.wire.specs.Lists.{EachBelow}
+use lib.ListN.{length-set}
 use Rattle.rate_code.specs.Rate.{count_limit}
 use Rattle.packet_cases.proofs.values.fill_counts.Goals as goal
 

@@ -1,11 +1,7 @@
 -- `fill_counts` writes inside the slice, and every count that it writes is below 2^24.
-use borrow.Author.Rules.{rules}
-use lib.Pow.{shr_le}
-use Rattle.packet_cases.proofs.Laws.{set_below}
-use Prim.Native.Nat.{◌≤◌, ◌<◌, ◌-◌, ◌%◌}
+use Prim.Native.Nat.{◌≤◌, ◌<◌, ◌-◌}
 use mathlib.Core.Path.{◌≡◌}
-use native.Mathlib.Omega.{arith}
-use lib.ListN.{length, length-set}
+use lib.ListN.{length}
 use Rattle.wire.specs.Lists.{EachBelow}
 use Rattle.rate_code.specs.Rate.{count_limit}
 use Rattle.packet_cases.proofs.values.fill_counts.Given as goal

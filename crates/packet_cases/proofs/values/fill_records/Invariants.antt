@@ -1,5 +1,4 @@
 -- `fill_records` writes inside the slice, and its number stays below 2^24.
-use borrow.Author.Rules.{rules}
 use Prim.Native.Nat.{◌≤◌, ◌<◌, ◌-◌}
 use mathlib.Core.Path.{◌≡◌}
 use lib.ListN.{length}

@@ -1,5 +1,5 @@
 -- A close whose number is 0 writes the packets and ends the interval; any other changes nothing.
-use mathlib.Core.Path.{◌≡◌, sym, ap, ◌∙◌}
+use mathlib.Core.Path.{sym, ap, ◌∙◌}
 use native.Mathlib.Omega.{arith}
 use borrow.Author.Tests.{ne_eqb}
 use lib.ListN.{length}
@@ -9,7 +9,6 @@ use Rattle.output.specs.Ended.{ended_in}
 use Rattle.output.specs.Output.{span_bytes, written}
 use Rattle.processor.specs.Close.{close_done}
 use Rattle.processor.proofs.CallLaws.{CloseAccepted, close_accepted}
-use borrow.Author.Rules.{rules}
 use Rattle.processor.proofs.close.close.Goals.{Else-number-ne-CARRIED_OUT}
 use Rattle.processor.proofs.close.close.Goals as goal
 

@@ -1,7 +1,6 @@
 -- The span is the whole one of the capacity's numbers.
 use mathlib.Core.Path.{ap, ◌∙◌}
 use Rattle.output.specs.Output.{whole_span}
-use borrow.Author.Rules.{rules}
 use Rattle.processor.proofs.close.close_span.Goals as goal
 
 pub returns : goal.returns

@@ -3,7 +3,6 @@ use mathlib.Core.Path.{sym, ◌∙◌}
 use borrow.Author.Tests.{ne_eqb}
 use Rattle.processor.specs.Event.{event_done}
 use Rattle.take_event.proofs.EventLaws.{event_taken}
-use borrow.Author.Rules.{rules}
 use Rattle.processor.proofs.event.event.Goals as goal
 
 pub returns-then-number-ne-CARRIED_OUT : goal.returns-then-number-ne-CARRIED_OUT

@@ -5,8 +5,7 @@ use borrow.Author.Tests.{ne_eqb}
 use lib.ListN.{length}
 use Rattle.command.specs.Grammar.{bytes_ok}
 use Rattle.processor.specs.Line.{line_done}
-use Rattle.processor.proofs.CallLaws.{line_sound, LineSound, line_number_lem, line_early, early_passed}
-use borrow.Author.Rules.{rules}
+use Rattle.processor.proofs.CallLaws.{line_sound, line_number_lem, line_early, early_passed}
 use Rattle.processor.proofs.line.line.Goals.{After-unless-number}
 use Rattle.processor.proofs.line.line.Goals as goal
 

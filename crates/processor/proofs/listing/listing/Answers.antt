@@ -1,5 +1,4 @@
 -- A listing whose number is 0 writes its packet; any other changes nothing.
-use borrow.Author.Rules.{rules}
 use mathlib.Core.Path.{sym, ◌∙◌}
 use borrow.Author.Tests.{ne_eqb}
 use Rattle.processor.specs.Listing.{listing_done}

@@ -1,5 +1,4 @@
 -- `listing_number` puts the two tests in a row.
-use borrow.Author.Rules.{rules}
 use Rattle.processor.specs.Listing.{listing_number}
 use Rattle.processor.proofs.listing.listing_number.Goals as goal
 

@@ -1,11 +1,9 @@
 -- A package whose number is 0 or 10 is staged with its echo, and any other changes nothing.
 use mathlib.Core.Path.{sym, ap, ◌∙◌}
-use borrow.Author.Tests.{not-true, not-false}
 use lib.ListN.{length}
 use Rattle.take_package.specs.Package.{is_staged}
 use Rattle.processor.specs.Package.{package_done}
 use Rattle.take_package.proofs.PackageLaws.{PackageStaged, package_staged}
-use borrow.Author.Rules.{rules}
 use Rattle.processor.proofs.load_package.package.Goals.{Else-not-is_staged}
 use Rattle.processor.proofs.load_package.package.Goals as goal
 

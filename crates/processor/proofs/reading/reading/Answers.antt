@@ -3,7 +3,6 @@ use mathlib.Core.Path.{sym, ◌∙◌}
 use borrow.Author.Tests.{ne_eqb}
 use Rattle.processor.specs.Reading.{reading_done}
 use Rattle.take_reading.proofs.ReadingLaws.{reading_taken}
-use borrow.Author.Rules.{rules}
 use Rattle.processor.proofs.reading.reading.Goals as goal
 
 pub returns-then-number-ne-CARRIED_OUT : goal.returns-then-number-ne-CARRIED_OUT

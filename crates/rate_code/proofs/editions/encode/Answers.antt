@@ -1,5 +1,4 @@
 -- `encode` goes by whether the mark is 0.
-use borrow.Author.Rules.{rules}
 use borrow.Author.Tests.{eq-eqb, ne_eqb}
 use Rattle.rate_code.proofs.editions.encode.Goals as goal
 

@@ -1,5 +1,4 @@
 -- `encode` takes the shift from the leading zeros, which is the least one that leaves a quotient below 4,096.
-use borrow.Author.Rules.{rules}
 use mathlib.Core.Path.{sym}
 use native.Mathlib.Omega.{arith}
 use lib.Count.{count_leading_zeros}

@@ -1,5 +1,4 @@
 -- `exact` compares the count with the least of its code, which is valid.
-use borrow.Author.Rules.{rules}
 use Prim.Native.Nat.{ℕ}
 use mathlib.Core.Path.{ap, ◌∙◌}
 use lib.Dec.{eqb}

@@ -1,5 +1,4 @@
 -- `least_count` shifts a quotient below 4,096 by at most 12, which 32 bits hold.
-use borrow.Author.Rules.{rules}
 use native.Mathlib.Omega.{arith}
 use native.Mathlib.Nat.{mod-eq_of_lt}
 use Rattle.rate_code.specs.Rate.{least_count}

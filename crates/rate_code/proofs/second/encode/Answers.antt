@@ -1,10 +1,9 @@
 -- `encode` takes e from the leading zeros.
-use borrow.Author.Rules.{rules}
 use mathlib.Core.Path.{sym}
 use Prim.Native.Nat.{◌-◌}
 use native.Mathlib.Omega.{arith}
 use lib.Count.{count_leading_zeros}
-use Rattle.rate_code.proofs.Codes.{Bits, bits}
+use Rattle.rate_code.proofs.Codes.{bits}
 use Rattle.rate_code.proofs.SecondCodes.{Spread, spread, second_low, code_spread, low, high}
 use Rattle.rate_code.proofs.second.encode.Goals.{Else-n-lt4096}
 use Rattle.rate_code.proofs.second.encode.Goals as goal

@@ -1,5 +1,4 @@
 -- `least_count` shifts a number below 8,192 by at most 11, which 32 bits hold.
-use borrow.Author.Rules.{rules}
 use mathlib.Core.Path.{sym, ◌∙◌}
 use native.Mathlib.Omega.{arith}
 use native.Mathlib.Nat.{mod-eq_of_lt}

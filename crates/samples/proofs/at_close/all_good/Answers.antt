@@ -1,13 +1,12 @@
 -- The scan of `all_good` has tested what is behind it.
-use Prim.Native.Nat.{◌≤◌, ◌-◌, ◌+◌}
+use Prim.Native.Nat.{◌+◌}
 use mathlib.Core.Bool.{◌&&◌}
-use mathlib.Core.Path.{◌≡◌, refl, ap, ◌∙◌}
+use mathlib.Core.Path.{refl, ap, ◌∙◌}
 use native.Mathlib.Omega.{arith}
-use lib.ListN.{length, drop}
+use lib.ListN.{drop}
 use Rattle.wire.specs.Lists.{all}
 use Rattle.wire.proofs.Lists.{scan_step, scan_end}
 use Rattle.sample_record.specs.Record.{record_good}
-use borrow.Author.Rules.{rules}
 use Rattle.samples.proofs.at_close.all_good.Goals as goal
 
 pub loop-i-init : goal.loop-i-init

@@ -1,13 +1,10 @@
 -- The scan of `all_good` has tested what is behind it.
-use Prim.Native.Nat.{◌≤◌, ◌-◌, ◌+◌}
+use Prim.Native.Nat.{◌≤◌, ◌-◌}
 use mathlib.Core.Bool.{◌&&◌}
-use mathlib.Core.Path.{◌≡◌, refl, ap, ◌∙◌}
-use native.Mathlib.Omega.{arith}
+use mathlib.Core.Path.{◌≡◌}
 use lib.ListN.{length, drop}
 use Rattle.wire.specs.Lists.{all}
-use Rattle.wire.proofs.Lists.{scan_step, scan_end}
 use Rattle.sample_record.specs.Record.{record_good}
-use borrow.Author.Rules.{rules}
 use Rattle.samples.proofs.at_close.all_good.Given as goal
 
 abbrev pub invariant-loop-i : goal.invariant-loop-i

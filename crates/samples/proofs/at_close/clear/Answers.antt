@@ -1,9 +1,8 @@
 -- `clear` leaves zeros in the slots that it has passed, and in the end it has passed all.
-use Prim.Native.Nat.{◌≤◌, ◌-◌}
 use mathlib.Core.Path.{◌≡◌, refl, sym, ap, ◌∙◌}
 use native.Mathlib.Omega.{arith}
 use native.Mathlib.Numerals.{add-one}
-use lib.ListN.{length, take}
+use lib.ListN.{length}
 use lib.Seq.{take-suc-set, take_all}
 use Rattle.wire.specs.Bytes.{zeros}
 use Rattle.wire.proofs.Bytes.{zeros_more}

@@ -1,13 +1,8 @@
 -- `clear` leaves zeros in the slots that it has passed, and in the end it has passed all.
 use Prim.Native.Nat.{◌≤◌, ◌-◌}
-use mathlib.Core.Path.{◌≡◌, refl, sym, ap, ◌∙◌}
-use native.Mathlib.Omega.{arith}
-use native.Mathlib.Numerals.{add-one}
+use mathlib.Core.Path.{◌≡◌}
 use lib.ListN.{length, take}
-use lib.Seq.{take-suc-set, take_all}
 use Rattle.wire.specs.Bytes.{zeros}
-use Rattle.wire.proofs.Bytes.{zeros_more}
-use borrow.Author.Rules.{rules}
 use Rattle.samples.proofs.at_close.clear.Given as goal
 
 abbrev pub invariant-loop-i : goal.invariant-loop-i

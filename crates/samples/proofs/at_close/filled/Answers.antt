@@ -1,16 +1,13 @@
 -- What `filled` has counted and the filled slots that it has not passed are together all filled slots.
-use Prim.Native.Nat.{◌≤◌, ◌-◌, ◌+◌}
+use Prim.Native.Nat.{◌+◌}
 use mathlib.Core.Bool.{cond}
-use mathlib.Core.Logic.{⊎_elim}
 use mathlib.Core.Path.{◌≡◌, ◌∙◌}
 use native.Mathlib.Omega.{arith}
 use borrow.Author.Tests.{lt-ltb, le-ltb}
 use lib.Dec.{ltb}
-use lib.ListN.{length, drop, get_or}
-use Rattle.wire.specs.Lists.{keep}
+use lib.ListN.{get_or}
 use Rattle.wire.proofs.Lists.{count_step, count_end}
 use Rattle.samples.specs.Samples.{filled}
-use borrow.Author.Rules.{rules}
 use Rattle.std.proofs.Common.{nat_lt}
 use Rattle.samples.proofs.at_close.filled.Goals.{then-slots-i-gt0, else-slots-i-gt0}
 use Rattle.samples.proofs.at_close.filled.Goals as goal

@@ -1,7 +1,5 @@
 -- The record of an eligible event is placed, and no other changes the slots.
 use mathlib.Core.Path.{sym, ◌∙◌}
-use borrow.Author.Tests.{not-true, not-false}
-use borrow.Author.Rules.{rules}
 use Rattle.samples.proofs.selection.select.Goals as goal
 
 pub returns-then-not-eligible : goal.returns-then-not-eligible

@@ -1,7 +1,6 @@
 -- `place` makes the tests of `place_of` in their order, and writes the slot and the two numbers of the place found.
 use borrow.Author.Tests.{lt-ltb, le-ltb}
 use Rattle.samples.specs.Samples.{place_of}
-use borrow.Author.Rules.{rules}
 use Rattle.samples.proofs.slots.place.Goals as goal
 
 pub returns-then-used-count : goal.returns-then-used-count

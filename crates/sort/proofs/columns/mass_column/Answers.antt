@@ -5,7 +5,6 @@ use mir.Syntax.{w32}
 use mir.ValLaws.{to_z-of_z}
 use Rattle.sort.specs.Columns.{floor_z}
 use Rattle.sort.proofs.ColumnLaws.{mass_sub}
-use borrow.Author.Rules.{rules}
 use Rattle.sort.proofs.columns.mass_column.Goals as goal
 
 pub returns : goal.returns

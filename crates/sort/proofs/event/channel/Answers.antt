@@ -1,6 +1,5 @@
 -- `channel` chooses by the gain that `gain` found.
 use mathlib.Core.Path.{sym, ◌∙◌}
-use borrow.Author.Rules.{rules}
 use Rattle.sort.proofs.event.channel.Goals as goal
 
 pub returns-then-gain : goal.returns-then-gain

@@ -1,6 +1,5 @@
 -- `cell_at` reads the first two bytes of the cell, which lie within the matrix.
 use Rattle.sort.specs.Matrix.{cell_of}
-use borrow.Author.Rules.{rules}
 use Rattle.sort.proofs.matrix.cell_at.Goals as goal
 
 pub returns : goal.returns

@@ -3,7 +3,6 @@ use mathlib.Core.Path.{sym, ◌∙◌}
 use native.Mathlib.Omega.{arith}
 use Rattle.sort.specs.Sorting.{event_words}
 use Rattle.sort.proofs.EventLaws.{in_range_lem}
-use borrow.Author.Rules.{rules}
 use Rattle.sort.proofs.sorting.event_words.Goals as goal
 
 pub word-flight-requires : goal.word-flight-requires

@@ -4,7 +4,6 @@ use mir.Syntax.{w32}
 use mir.ValLaws.{to_z-of_z}
 use Rattle.sort.specs.Columns.{bounded}
 use Rattle.sort.specs.Sorting.{located, in_matrix}
-use borrow.Author.Rules.{rules}
 use Rattle.sort.proofs.sorting.in_matrix.Goals as goal
 
 pub returns : goal.returns

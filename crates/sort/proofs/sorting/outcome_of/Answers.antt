@@ -1,7 +1,6 @@
 -- `outcome_of` discards by rule 1, and otherwise sorts by the words and the matrix part of the tables.
 use mathlib.Core.Path.{sym, ◌∙◌}
 use Rattle.sort.specs.Sorting.{outcome_of}
-use borrow.Author.Rules.{rules}
 use Rattle.sort.proofs.sorting.outcome_of.Goals as goal
 
 pub returns-then-discards : goal.returns-then-discards

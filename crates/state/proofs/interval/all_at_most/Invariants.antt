@@ -1,12 +1,9 @@
 -- The scan of `all_at_most` has tested what is behind it, and `all` of the rest is still to be tested.
 use Prim.Native.Nat.{◌≤◌, ◌-◌}
 use mathlib.Core.Bool.{◌&&◌}
-use mathlib.Core.Path.{◌≡◌, refl}
-use native.Mathlib.Omega.{arith}
+use mathlib.Core.Path.{◌≡◌}
 use lib.ListN.{length, drop}
 use Rattle.wire.specs.Lists.{all, at_most}
-use Rattle.wire.proofs.Lists.{scan_step, scan_end}
-use borrow.Author.Rules.{rules}
 use Rattle.state.proofs.interval.all_at_most.Given as goal
 
 abbrev pub invariant-loop-i : goal.invariant-loop-i

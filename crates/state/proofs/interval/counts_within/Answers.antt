@@ -1,5 +1,4 @@
 -- `counts_within` is its three tests: taken, the boxes, the beacons.
-use borrow.Author.Rules.{rules}
 use Rattle.state.proofs.interval.counts_within.Goals as goal
 
 pub returns : goal.returns

@@ -1,5 +1,4 @@
 -- An interval that begins has the counts of `no_counts`, and zeros.
-use borrow.Author.Rules.{rules}
 use Rattle.state.proofs.interval.fresh.Goals as goal
 
 pub returns : goal.returns

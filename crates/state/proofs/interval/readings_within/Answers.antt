@@ -1,6 +1,5 @@
 -- With at most 60 readings the limit of the totals does not overflow, and `readings_within` scans them by it.
 use borrow.Author.Tests.{le-leb, lt-leb}
-use borrow.Author.Rules.{rules}
 use Rattle.state.proofs.interval.readings_within.Goals as goal
 
 pub returns-then-readings-gt-MOST_READINGS : goal.returns-then-readings-gt-MOST_READINGS

@@ -1,5 +1,4 @@
 -- `rest_within` is its two tests: the slots, the readings.
-use borrow.Author.Rules.{rules}
 use Rattle.state.proofs.interval.rest_within.Goals as goal
 
 pub returns : goal.returns

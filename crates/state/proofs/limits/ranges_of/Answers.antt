@@ -1,5 +1,4 @@
 -- The ranges have the reach, and LIMHI's largest value by the capacity.
-use borrow.Author.Rules.{rules}
 use Rattle.state.proofs.limits.ranges_of.Goals as goal
 
 pub returns : goal.returns

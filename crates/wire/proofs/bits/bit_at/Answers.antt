@@ -1,6 +1,5 @@
 -- `bit_at` asks for the bit by its value.
 use mathlib.Core.Path.{ap, ◌∙◌}
-use borrow.Author.Rules.{rules}
 use Rattle.wire.specs.Bits.{is_set}
 use Rattle.wire.proofs.bits.bit_at.Goals as goal
 

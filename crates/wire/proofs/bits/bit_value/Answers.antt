@@ -3,7 +3,6 @@ use Prim.Native.Nat.{ℕ, ◌*◌, ◌^◌, ◌%◌, ◌≤◌, ◌<◌}
 use mathlib.Core.Path.{◌≡◌, refl}
 use native.Mathlib.Omega.{arith}
 use Rattle.wire.proofs.BitLaws.{below_eight}
-use borrow.Author.Rules.{rules}
 use Rattle.wire.proofs.bits.bit_value.Goals as goal
 
 -- by the eight bits

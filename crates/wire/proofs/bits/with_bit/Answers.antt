@@ -1,8 +1,6 @@
 -- `with_bit` takes away or adds the bit's value where the bit is not as it shall be.
-use mathlib.Core.Path.{◌≡◌, ap, ◌∙◌}
-use Prim.Native.Nat.{ℕ}
+use mathlib.Core.Path.{ap, ◌∙◌}
 use native.Mathlib.Omega.{arith}
-use borrow.Author.Rules.{rules}
 use Rattle.wire.specs.Bits.{is_set}
 use Rattle.wire.proofs.BitLaws.{bit_cleared, bit_below, bit_set, bit_fits, bit_kept}
 use Rattle.wire.proofs.bits.with_bit.Goals as goal

@@ -1,11 +1,6 @@
 -- The sum so far and the bytes that `byte_sum` has not passed are together the total, and 255 a byte bounds it.
-use Prim.Native.Nat.{◌≤◌, ◌-◌, ◌+◌, ◌*◌}
-use mathlib.Core.Path.{◌≡◌}
 use native.Mathlib.Omega.{arith}
-use lib.ListN.{length, drop}
-use Rattle.wire.specs.Bytes.{total}
 use Rattle.wire.proofs.Bytes.{total_drop, total_end}
-use borrow.Author.Rules.{rules}
 use Rattle.wire.proofs.read.byte_sum.Goals as goal
 
 pub loop-i-preserved : goal.loop-i-preserved

@@ -1,11 +1,8 @@
 -- The sum so far and the bytes that `byte_sum` has not passed are together the total, and 255 a byte bounds it.
 use Prim.Native.Nat.{◌≤◌, ◌-◌, ◌+◌, ◌*◌}
 use mathlib.Core.Path.{◌≡◌}
-use native.Mathlib.Omega.{arith}
 use lib.ListN.{length, drop}
 use Rattle.wire.specs.Bytes.{total}
-use Rattle.wire.proofs.Bytes.{total_drop, total_end}
-use borrow.Author.Rules.{rules}
 use Rattle.wire.proofs.read.byte_sum.Given as goal
 
 abbrev pub invariant-loop-i : goal.invariant-loop-i

@@ -6,7 +6,6 @@ use native.Mathlib.Omega.{arith}
 use lib.ListN.{length, drop, length-drop, length-take}
 use lib.Seq.{take_all}
 use Rattle.wire.specs.Bytes.{total}
-use borrow.Author.Rules.{rules}
 use Rattle.wire.proofs.read.long_sum.Goals as goal
 
 pub returns : goal.returns

@@ -4,7 +4,6 @@ use mathlib.Core.Path.{◌≡◌, ap}
 use native.Mathlib.Omega.{arith}
 use lib.ListN.{drop}
 use Rattle.wire.specs.Bytes.{total}
-use borrow.Author.Rules.{rules}
 use Rattle.wire.proofs.read.sum_32.Goals as goal
 
 pub returns : goal.returns

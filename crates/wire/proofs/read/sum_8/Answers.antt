@@ -1,7 +1,6 @@
 -- The eight bytes that `sum_8` adds are the next of the total.
 use native.Mathlib.Omega.{arith}
 use Rattle.wire.proofs.Bytes.{total_eight}
-use borrow.Author.Rules.{rules}
 use Rattle.wire.proofs.read.sum_8.Goals as goal
 
 pub returns : goal.returns

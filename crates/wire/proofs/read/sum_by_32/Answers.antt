@@ -1,10 +1,9 @@
 -- The sum so far and the bytes that `sum_by_32` has not passed are together the total, and 255 a byte bounds it.
-use Prim.Native.Nat.{ℕ, ◌≤◌, ◌-◌, ◌+◌, ◌*◌}
+use Prim.Native.Nat.{ℕ, ◌+◌, ◌*◌}
 use mathlib.Core.Path.{◌≡◌, ap, ◌∙◌}
 use native.Mathlib.Omega.{arith}
 use lib.ListN.{drop}
 use Rattle.wire.specs.Bytes.{total}
-use borrow.Author.Rules.{rules}
 use Rattle.wire.proofs.read.sum_by_32.Goals as goal
 
 pub loop-i-preserved : goal.loop-i-preserved

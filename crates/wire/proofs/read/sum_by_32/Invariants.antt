@@ -1,10 +1,8 @@
 -- The sum so far and the bytes that `sum_by_32` has not passed are together the total, and 255 a byte bounds it.
-use Prim.Native.Nat.{ℕ, ◌≤◌, ◌-◌, ◌+◌, ◌*◌}
-use mathlib.Core.Path.{◌≡◌, ap, ◌∙◌}
-use native.Mathlib.Omega.{arith}
+use Prim.Native.Nat.{◌≤◌, ◌-◌, ◌+◌, ◌*◌}
+use mathlib.Core.Path.{◌≡◌}
 use lib.ListN.{drop}
 use Rattle.wire.specs.Bytes.{total}
-use borrow.Author.Rules.{rules}
 use Rattle.wire.proofs.read.sum_by_32.Given as goal
 
 abbrev pub invariant-loop-i : goal.invariant-loop-i

@@ -1,11 +1,6 @@
 -- `length_before` counts to the first b, or to the end where there is none.
-use Prim.Native.Nat.{◌≤◌, ◌+◌, ◌-◌}
-use mathlib.Core.Path.{◌≡◌}
 use native.Mathlib.Omega.{arith}
-use lib.ListN.{length, drop}
-use Rattle.wire.specs.Words.{length_before}
 use Rattle.wire.proofs.WordLaws.{before_step, before_stop, before_end}
-use borrow.Author.Rules.{rules}
 use Rattle.wire.proofs.words.length_before.Goals as goal
 
 pub loop-i-init : goal.loop-i-init

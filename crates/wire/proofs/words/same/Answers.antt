@@ -1,11 +1,7 @@
 -- `same` compares the lengths, and then byte for byte.
-use Prim.Native.Nat.{◌≤◌, ◌-◌}
-use mathlib.Core.Path.{◌≡◌, refl, sym, ◌∙◌}
+use mathlib.Core.Path.{refl, sym, ◌∙◌}
 use native.Mathlib.Omega.{arith}
-use lib.ListN.{length, drop}
-use Rattle.wire.specs.Words.{same}
 use Rattle.wire.proofs.WordLaws.{same_step, same_stop, same_end, same_lengths}
-use borrow.Author.Rules.{rules}
 use Rattle.wire.proofs.words.same.Goals as goal
 
 pub returns-then-a-b : goal.returns-then-a-b

@@ -1,5 +1,5 @@
 -- After i bytes `put_bytes` has put the first i of its source.
-use Prim.Native.Nat.{ℕ, ◌≤◌, ◌-◌, ◌+◌}
+use Prim.Native.Nat.{ℕ, ◌+◌}
 use mathlib.Core.Path.{◌≡◌, refl, ap, ◌∙◌}
 use mathlib.Core.List.{List, ◌++◌}
 use native.Mathlib.Omega.{arith}
@@ -8,7 +8,6 @@ use lib.ListN.{length, take, get_or}
 use lib.Seq.{take_all, take-suc, length-take-le}
 use Rattle.wire.specs.Bytes.{put, one}
 use Rattle.wire.proofs.Bytes.{then, put_nil}
-use borrow.Author.Rules.{rules}
 use Rattle.wire.proofs.write.put_bytes.Goals as goal
 
 pub loop-i-init : goal.loop-i-init

@@ -1,14 +1,8 @@
 -- After i bytes `put_bytes` has put the first i of its source.
-use Prim.Native.Nat.{ℕ, ◌≤◌, ◌-◌, ◌+◌}
-use mathlib.Core.Path.{◌≡◌, refl, ap, ◌∙◌}
-use mathlib.Core.List.{List, ◌++◌}
-use native.Mathlib.Omega.{arith}
-use native.Mathlib.Numerals.{add-one}
-use lib.ListN.{length, take, get_or}
-use lib.Seq.{take_all, take-suc, length-take-le}
-use Rattle.wire.specs.Bytes.{put, one}
-use Rattle.wire.proofs.Bytes.{then, put_nil}
-use borrow.Author.Rules.{rules}
+use Prim.Native.Nat.{◌≤◌, ◌-◌}
+use mathlib.Core.Path.{◌≡◌}
+use lib.ListN.{length, take}
+use Rattle.wire.specs.Bytes.{put}
 use Rattle.wire.proofs.write.put_bytes.Given as goal
 
 abbrev pub invariant-loop-i : goal.invariant-loop-i

@@ -1,5 +1,4 @@
 -- `put_u16` sets two places in a row, the high byte first.
-use borrow.Author.Rules.{rules}
 use Prim.Native.Nat.{◌/◌, ◌%◌}
 use mathlib.Core.List.{[], ◌∷◌}
 use native.Mathlib.Omega.{arith}

@@ -5,7 +5,6 @@ use native.Mathlib.Omega.{arith}
 use lib.ListN.{length-set}
 use Rattle.wire.specs.Bytes.{be24}
 use Rattle.wire.proofs.Bytes.{put_sets}
-use borrow.Author.Rules.{rules}
 use Rattle.wire.proofs.write.put_u24.Goals as goal
 
 pub bounds-part-at-2 : goal.bounds-part-at-2

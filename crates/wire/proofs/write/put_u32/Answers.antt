@@ -1,5 +1,4 @@
 -- `put_u32` sets four places in a row, the high byte first.
-use borrow.Author.Rules.{rules}
 use Prim.Native.Nat.{suc, ◌+◌}
 use mathlib.Core.Path.{◌≡◌}
 use native.Mathlib.Omega.{arith}

@@ -1,5 +1,4 @@
 -- `put_u8` sets one place, which is putting a list of one byte.
-use borrow.Author.Rules.{rules}
 use native.Mathlib.Omega.{arith}
 use Rattle.wire.specs.Bytes.{one}
 use Rattle.wire.proofs.Bytes.{put_sets}

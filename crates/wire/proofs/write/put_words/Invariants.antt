@@ -1,13 +1,8 @@
 -- After i words `put_words` has put the four bytes of each of the first i, in order.
-use borrow.Author.Rules.{rules}
-use Prim.Native.Nat.{ℕ, ◌≤◌, ◌-◌, ◌+◌, ◌*◌}
-use mathlib.Core.Path.{◌≡◌, ap, refl, sym, ◌∙◌}
-use mathlib.Core.List.{List}
-use native.Mathlib.Omega.{arith}
-use lib.ListN.{length, take, get_or}
-use lib.Seq.{take_all}
-use Rattle.wire.specs.Bytes.{put, be32, words}
-use Rattle.wire.proofs.Bytes.{put_put, put_nil, words_take, length_words_take}
+use Prim.Native.Nat.{◌≤◌, ◌-◌}
+use mathlib.Core.Path.{◌≡◌}
+use lib.ListN.{length, take}
+use Rattle.wire.specs.Bytes.{put, words}
 use Rattle.wire.proofs.write.put_words.Given as goal
 
 abbrev pub invariant-loop-i : goal.invariant-loop-i

@@ -1,11 +1,8 @@
 -- At place i `put_zeros` has put a zero at each place from its first to i.
-use Prim.Native.Nat.{ℕ, ◌≤◌, ◌-◌, ◌+◌}
-use mathlib.Core.Path.{◌≡◌, refl, ap, ◌∙◌}
-use native.Mathlib.Omega.{arith}
-use lib.ListN.{length, length-replicate}
-use Rattle.wire.specs.Bytes.{put, one, zeros}
-use Rattle.wire.proofs.Bytes.{then, put_nil, zeros_more}
-use borrow.Author.Rules.{rules}
+use Prim.Native.Nat.{◌≤◌, ◌-◌}
+use mathlib.Core.Path.{◌≡◌}
+use lib.ListN.{length}
+use Rattle.wire.specs.Bytes.{put, zeros}
 use Rattle.wire.proofs.write.put_zeros.Given as goal
 
 abbrev pub invariant-loop-i : goal.invariant-loop-i
