@@ -2,19 +2,24 @@
 use mathlib.Core.Path.{◌≡◌, refl, ap, subst, ◌∙◌}
 use native.Mathlib.Omega.{arith}
 use mathlib.Core.List.{List}
-use Prim.Native.Nat.{ℕ, ◌-◌}
-use lib.ListN.{length}
-use Rattle.wire.proofs.Bytes.{length_part}
+use Prim.Native.Nat.{ℕ, ◌-◌, ◌≤◌}
+use lib.ListN.{length, take, drop, length-drop}
+use lib.Seq.{length-take-le}
+use Rattle.buffered.specs.declared.input.Input.{Input}
+use Rattle.buffered.specs.Input.{Held}
 use Rattle.processor.specs.declared.Answer.{Answer}
-use Rattle.stream.specs.Record.{LongAs}
 use Rattle.stream.specs.declared.record.Next.{Next}
 use Rattle.minute_calls.specs.Record.{LiesIn}
-use borrow.Author.Rules.{rules}
 use Rattle.minute.proofs.step.Goals as goal
 
 -- a record that lies in the buffer, as the match took it apart
 lies : (x : Next) {y : Next} (buffer : List ℕ) → x ≡ y → LiesIn x buffer → LiesIn y buffer
 lies x buffer e h = subst (λ (z : Next). LiesIn z buffer) e h
+
+-- its body is as long as the two places say
+length_body : (buffer : List ℕ) (from : ℕ) (rest : Input) → from ≤ rest.at → Held rest buffer
+    → length (take (rest.at - from) (drop from buffer)) ≡ rest.at - from
+length_body buffer from rest h g = length-take-le (rest.at - from) (drop from buffer) (omega (arith, length-drop from buffer, h, g))
 
 pub events-requires : goal.events-requires
 events-requires c = let l = lies _ _ c.in-Record.is c.requires in omega (arith, l.0, l.1, l.2)
@@ -39,7 +44,7 @@ slice_bounds-body-end c = omega (arith, (lies _ _ c.in-Record.is c.requires).2)
 pub carry_out-answer-requires : goal.carry_out-answer-requires
 carry_out-answer-requires c =
     let l = lies _ _ c.in-Record.is c.requires in
-    let n = length_part c.args.buffer.now c.in-Record.from (c.in-Record.rest.at - c.in-Record.from) (omega (arith, l.1, l.2)) in
+    let n = length_body c.args.buffer.now c.in-Record.from c.in-Record.rest l.1 l.2 in
     rw n l.3.0
 
 pub returns-in-End : goal.returns-in-End

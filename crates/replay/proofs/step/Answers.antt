@@ -2,18 +2,24 @@
 use mathlib.Core.Path.{◌≡◌, refl, sym, subst, ◌∙◌}
 use mathlib.Core.Bool.{false≢true}
 use mathlib.Core.List.{List}
-use Prim.Native.Nat.{ℕ, ◌-◌}
+use Prim.Native.Nat.{ℕ, ◌-◌, ◌≤◌}
 use native.Mathlib.Omega.{arith}
-use lib.ListN.{length}
-use Rattle.wire.proofs.Bytes.{length_part}
+use lib.ListN.{length, take, drop, length-drop}
+use lib.Seq.{length-take-le}
+use Rattle.buffered.specs.declared.input.Input.{Input}
+use Rattle.buffered.specs.Input.{Held}
 use Rattle.stream.specs.declared.record.Next.{Next}
-use Rattle.replay_calls.specs.Record.{Long, LiesIn}
-use borrow.Author.Rules.{rules}
+use Rattle.replay_calls.specs.Record.{LiesIn}
 use Rattle.replay.proofs.step.Goals as goal
 
 -- a record that lies in the buffer, as the match took it apart
 lies : (x : Next) {y : Next} (buffer : List ℕ) → x ≡ y → LiesIn x buffer → LiesIn y buffer
 lies x buffer e h = subst (λ (z : Next). LiesIn z buffer) e h
+
+-- its body is as long as the two places say
+length_body : (buffer : List ℕ) (from : ℕ) (rest : Input) → from ≤ rest.at → Held rest buffer
+    → length (take (rest.at - from) (drop from buffer)) ≡ rest.at - from
+length_body buffer from rest h g = length-take-le (rest.at - from) (drop from buffer) (omega (arith, length-drop from buffer, h, g))
 
 pub slice_bounds-body-count : goal.slice_bounds-body-count
 slice_bounds-body-count c = (lies _ _ c.in-Record.is c.requires).0
@@ -27,7 +33,7 @@ slice_bounds-body-end c = omega (arith, (lies _ _ c.in-Record.is c.requires).1)
 pub is_right-requires : goal.is_right-requires
 is_right-requires c =
     let l = lies _ _ c.in-Record.is c.requires in
-    let n = length_part c.args.buffer.now c.in-Record.from (c.in-Record.rest.at - c.in-Record.from) (omega (arith, l.0, l.1)) in
+    let n = length_body c.args.buffer.now c.in-Record.from c.in-Record.rest l.0 l.1 in
     rw n l.2
 
 pub returns-then-not-is_right : goal.returns-then-not-is_right
@@ -44,7 +50,7 @@ returns-then-not-is_right c =
 pub carry_out-after-requires : goal.carry_out-after-requires
 carry_out-after-requires c =
     let l = lies _ _ c.in-Record.is c.requires in
-    let n = length_part c.args.buffer.now c.in-Record.from (c.in-Record.rest.at - c.in-Record.from) (omega (arith, l.0, l.1)) in
+    let n = length_body c.args.buffer.now c.in-Record.from c.in-Record.rest l.0 l.1 in
     record { long = rw n l.2; slots_value = sym c.is_right.ensures ∙ c.if-not-is_right.false }
 
 pub returns-in-End : goal.returns-in-End

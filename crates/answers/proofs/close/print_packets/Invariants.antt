@@ -1,7 +1,6 @@
 -- `print_packets` takes one packet off what is left at each turn, and stops where less than one is left.
 use mathlib.Core.Path.{◌≡◌}
 use lib.ListN.{length}
-use borrow.Author.Rules.{rules}
 use Rattle.answers.proofs.close.print_packets.Given as goal
 
 abbrev pub invariant-loop-rest : goal.invariant-loop-rest

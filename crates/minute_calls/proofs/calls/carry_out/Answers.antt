@@ -2,7 +2,6 @@
 use Rattle.std.proofs.Common.{◌≢◌, arith}
 use borrow.Author.Tests.{ne_eqb}
 use Rattle.minute_calls.specs.Calls.{kind_done}
-use borrow.Author.Rules.{rules}
 use Rattle.minute_calls.proofs.calls.carry_out.Goals as goal
 
 pub reading-requires : goal.reading-requires

@@ -2,7 +2,6 @@
 use mathlib.Core.Path.{sym, ap}
 use Rattle.processor.specs.declared.Answer.{Answer}
 use Rattle.processor.specs.declared.close.Closed.{Closed}
-use borrow.Author.Rules.{rules}
 use Rattle.minute_calls.proofs.calls.close.Goals as goal
 
 answer : Closed → Answer

@@ -1,13 +1,9 @@
 -- After each turn of `events` the records so far led from the first state and slots to those of now.
-use Prim.Native.Nat.{◌≤◌, ◌+◌, ◌-◌}
-use mathlib.Core.Path.{◌≡◌, refl, ap, ◌∙◌}
-use mathlib.Core.Logic.{inl, inr, ⊎_elim}
-use native.Mathlib.Omega.{arith}
-use lib.ListN.{length, take, drop}
+use Prim.Native.Nat.{◌≤◌, ◌-◌}
+use mathlib.Core.Path.{◌≡◌}
+use lib.ListN.{length}
 use Rattle.buffered.specs.Input.{waiting_in}
 use Rattle.minute_calls.specs.Events.{EventsRun}
-use Rattle.minute_calls.proofs.EventLaws.{record_kind, record_body, events_none, events_more}
-use borrow.Author.Rules.{rules}
 use Rattle.minute_calls.proofs.calls.events.Given as goal
 
 abbrev pub invariant-loop-from : goal.invariant-loop-from

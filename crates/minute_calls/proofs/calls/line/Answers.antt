@@ -3,7 +3,6 @@ use mathlib.Core.Path.{sym, ap}
 use lib.Seq.{length-take-le}
 use Rattle.take_line.specs.declared.LineAnswer.{LineAnswer}
 use Rattle.processor.specs.Answer.{answer}
-use borrow.Author.Rules.{rules}
 use Rattle.minute_calls.proofs.calls.line.Goals as goal
 
 pub slice_bounds-line-end : goal.slice_bounds-line-end

@@ -5,7 +5,6 @@ use Rattle.buffered.specs.Input.{waiting_in}
 use Rattle.buffered.proofs.InputLaws.{length_waiting, begins_none}
 use Rattle.stream.proofs.RecordLaws.{found_then}
 use Rattle.minute_calls.proofs.RecordLaws.{body_long}
-use borrow.Author.Rules.{rules}
 use Rattle.minute_calls.proofs.records.next.Goals as goal
 
 pub returns-then-one-start : goal.returns-then-one-start

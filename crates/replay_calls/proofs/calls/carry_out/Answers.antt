@@ -15,7 +15,6 @@ use Rattle.replay_calls.proofs.CallLaws.{
   other_leaves,
 }
 use Rattle.replay_calls.proofs.RecordLaws.{slots_long}
-use borrow.Author.Rules.{rules}
 use Rattle.replay_calls.proofs.calls.carry_out.Goals as goal
 
 pub event-requires : goal.event-requires

@@ -1,6 +1,5 @@
 -- `close` hands on what the processor's close makes of state, tables and slots, after it is printed.
 use mathlib.Core.Path.{sym}
-use borrow.Author.Rules.{rules}
 use Rattle.replay_calls.proofs.calls.close.Goals as goal
 
 pub returns : goal.returns

@@ -1,5 +1,4 @@
 -- `event` hands on the state and the slots that the record's event leaves, after its number is printed.
-use borrow.Author.Rules.{rules}
 use Rattle.replay_calls.proofs.calls.event.Goals as goal
 
 pub returns : goal.returns

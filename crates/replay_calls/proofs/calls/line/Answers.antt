@@ -1,5 +1,4 @@
 -- `line` hands on the state and the echo that the processor's line leaves, after they are printed.
-use borrow.Author.Rules.{rules}
 use Rattle.replay_calls.proofs.calls.line.Goals as goal
 
 pub returns : goal.returns

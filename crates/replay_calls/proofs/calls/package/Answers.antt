@@ -1,5 +1,4 @@
 -- `package` hands on the state, the staging, the bitmap and the echo that the processor's package leaves, after the echo is printed.
-use borrow.Author.Rules.{rules}
 use Rattle.replay_calls.proofs.calls.package.Goals as goal
 
 pub returns : goal.returns

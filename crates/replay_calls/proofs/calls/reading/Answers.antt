@@ -1,5 +1,4 @@
 -- `reading` hands on the state that the record's reading answers, after its number is printed.
-use borrow.Author.Rules.{rules}
 use Rattle.replay_calls.proofs.calls.reading.Goals as goal
 
 pub returns : goal.returns

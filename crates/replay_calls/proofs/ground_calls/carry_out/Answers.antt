@@ -3,7 +3,6 @@ use mathlib.Core.Path.{refl}
 use native.Mathlib.Omega.{arith}
 use Rattle.replay_calls.proofs.GroundLaws.{gather_leaves, hand_over_leaves, other_leaves}
 use Rattle.std.proofs.Common.{◌≢◌}
-use borrow.Author.Rules.{rules}
 use Rattle.replay_calls.proofs.ground_calls.carry_out.Goals as goal
 
 pub returns-in-6 : goal.returns-in-6

@@ -1,5 +1,4 @@
 -- `gather` hands on the gatherer that was given the body, and its table, after the number is printed.
-use borrow.Author.Rules.{rules}
 use Rattle.replay_calls.specs.Ground.{gatherer}
 use Rattle.replay_calls.proofs.ground_calls.gather.Goals as goal
 

@@ -6,7 +6,6 @@ use lib.ListN.{length, length-replicate}
 use Rattle.wire.specs.Bytes.{zeros, put}
 use Rattle.wire.proofs.Bytes.{put_all}
 use Rattle.replay_calls.specs.Ground.{gatherer}
-use borrow.Author.Rules.{rules}
 use Rattle.replay_calls.proofs.ground_calls.hand_over.Goals as goal
 
 pub returns : goal.returns

@@ -5,7 +5,6 @@ use Rattle.buffered.specs.Input.{waiting_in}
 use Rattle.buffered.proofs.InputLaws.{first_same}
 use Rattle.stream.proofs.RecordLaws.{found_then}
 use Rattle.replay_calls.proofs.RecordLaws.{counted_body}
-use borrow.Author.Rules.{rules}
 use Rattle.replay_calls.proofs.records.counted.Goals as goal
 
 pub whole-requires : goal.whole-requires

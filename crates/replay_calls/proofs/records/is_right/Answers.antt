@@ -4,7 +4,6 @@ use lib.ListN.{length}
 use native.Mathlib.Omega.{arith}
 use borrow.Author.Tests.{ne_eqb}
 use Rattle.std.proofs.Common.{◌≢◌}
-use borrow.Author.Rules.{rules}
 use Rattle.replay_calls.specs.Record.{body_right}
 use Rattle.replay_calls.proofs.RecordLaws.{by_four}
 use Rattle.replay_calls.proofs.records.is_right.Goals as goal

@@ -2,7 +2,6 @@
 use mathlib.Core.Path.{sym}
 use borrow.Author.Tests.{le-leb, lt-leb}
 use Rattle.stream.specs.Record.{record_done}
-use borrow.Author.Rules.{rules}
 use Rattle.stream.proofs.record.event.Goals as goal
 
 pub returns-then-body-gt-LAST_FLAGS : goal.returns-then-body-gt-LAST_FLAGS

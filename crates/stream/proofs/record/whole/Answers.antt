@@ -3,7 +3,6 @@ use mathlib.Core.Path.{refl, ◌∙◌}
 use native.Mathlib.Nat.{add-sub_cancel_left}
 use native.Mathlib.Omega.{arith}
 use Rattle.buffered.proofs.InputLaws.{first_same}
-use borrow.Author.Rules.{rules}
 use Rattle.stream.proofs.record.whole.Goals as goal
 
 pub returns : goal.returns
