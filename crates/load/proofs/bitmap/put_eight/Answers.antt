@@ -1,6 +1,6 @@
 -- `put_eight` writes a byte whose eight bits are all set or all cleared.
 use mathlib.Core.Path.{ap, ◌∙◌}
-use native.Mathlib.Omega.{arith}
+use borrow.Author.Rules.{rules}
 use lib.ListN.{set}
 use Rattle.load.proofs.BitmapLaws.{eight_bits}
 use Rattle.load.proofs.bitmap.put_eight.Goals as goal
@@ -9,4 +9,4 @@ pub returns : goal.returns
 returns c =
     let a = c.args in
     ap (set a.bitmap.now a.k) c.eight_bits.ensures
-    ∙ eight_bits a.bitmap.now a.k a.bad c.requires (omega (arith, c.slice_known-1.given a.k))
+    ∙ eight_bits a.bitmap.now a.k a.bad c.requires (search rules)
