@@ -31,7 +31,7 @@ WORD = re.compile(r"[A-Za-z][\w′]*(?:-[\w′]+)*|--[a-z][a-z-]*")
 # of the C library
 FOREIGN = {"memset"}
 # of the kit
-KIT = {"port.py"}
+KIT = {"port.py", "rattle-kit-13f"}
 
 
 def text_of(document):

@@ -91,25 +91,25 @@ pub fn write_decimal<W: Write>(to: &mut W, n: u64) -> Result<()> {
 const NAME_BYTES: usize = 4096;
 
 // Writes the program's name.
-fn write_name<W: Write>(rt: &HostRuntime, to: &mut W) -> Result<()> {
+fn write_name<W: Write>(rt: &HostRuntime, to: &mut W) {
     let mut name = [0u8; NAME_BYTES];
-    match rt.arg(0, &mut name) {
-        Ok(n) => write_all(to, &name[..n]),
-        Err(_) => Ok(()),
+    if let Ok(n) = rt.arg(0, &mut name) {
+        let _ = write_all(to, &name[..n]);
     }
 }
 
-// A line of the program's name, what it could not do, and the system's text for the reason.
-fn write_failure<W: Write>(rt: &HostRuntime, to: &mut W, what: &[u8], error: Error) -> Result<()> {
-    write_name(rt, to)?;
-    write_all(to, b": ")?;
-    write_all(to, what)?;
-    write_all(to, b": ")?;
-    write_reason(to, error)?;
-    write_all(to, b"\n")
+// A line of the program's name, what it could not do, and the system's text for the reason. Each part is written, whatever became
+// of those before it.
+fn write_failure<W: Write>(rt: &HostRuntime, to: &mut W, what: &[u8], error: Error) {
+    write_name(rt, to);
+    let _ = write_all(to, b": ");
+    let _ = write_all(to, what);
+    let _ = write_all(to, b": ");
+    let _ = write_reason(to, error);
+    let _ = write_all(to, b"\n");
 }
 
 // The same on standard error. That it cannot be told is not told.
 pub fn tell(rt: &HostRuntime, what: &[u8], error: Error) {
-    let _ = write_failure(rt, &mut rt.stderr(), what, error);
+    write_failure(rt, &mut rt.stderr(), what, error);
 }

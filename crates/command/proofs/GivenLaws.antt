@@ -1,5 +1,5 @@
--- Each command in its ranges is given by some line: `commandOk` refuses no command that a line can give, and no line can
--- give one that it refuses (`waits-ok`). Assumes nothing.
+-- Each command in its ranges is given by some line: `command_ok` refuses no command that a line can give, and no line can
+-- give one that it refuses (`waits_ok`). Assumes nothing.
 use mathlib.Core.Path.{◌≡◌, ap, ◌∙◌}
 use mathlib.Core.Bool.{true, false}
 use mathlib.Core.List.{List, [], ◌∷◌, ◌++◌}

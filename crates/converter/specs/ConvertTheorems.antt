@@ -1,4 +1,4 @@
--- What is proved of converting (document 02, Point 6). `toSecond` and `toFirst` are what the two calls do, by their contracts.
+-- What is proved of converting (document 02, Point 6). `to_second` and `to_first` are what the two calls do, by their contracts.
 -- Assumes nothing.
 use Rattle.std.specs.Prelude.{ℕ, ◌<◌, ◌≤◌, ◌≡◌, ◌⊎◌, true, List, [], length, take, get_or, set}
 use Rattle.causes.specs.Causes.{carried_out, buffer_or_state, body_fault, no_first_code}

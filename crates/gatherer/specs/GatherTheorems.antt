@@ -1,4 +1,4 @@
--- What is proved of the gatherer (document 02, Point 1). `gatherDone` is what its call does, `listingPacket` what the call `listing`
+-- What is proved of the gatherer (document 02, Point 1). `gather_done` is what its call does, `listing_packet` what the call `listing`
 -- writes, by their contracts. Assumes nothing.
 use Rattle.std.specs.Prelude.{ℕ, ◌+◌, ◌*◌, ◌<◌, ◌≡◌, ◌⊎◌, Bool, true, false, not, cond, ◌&&◌, ◌||◌, List, [], ◌∷◌, eqb, length}
 use Rattle.causes.specs.Causes.{carried_out, no_header, packet_sum, not_listed}

@@ -1,5 +1,5 @@
--- What is proved of the packets and their reader together. `read_of` and `recordsOf` are what the reader's two calls answer,
--- `ratePacket`, `samplePacket` and `beaconPacket` what the three writers write, by their contracts. Assumes nothing.
+-- What is proved of the packets and their reader together. `read_of` and `records_of` are what the reader's two calls answer,
+-- `rate_packet`, `sample_packet` and `beacon_packet` what the three writers write, by their contracts. Assumes nothing.
 use Rattle.std.specs.Prelude.{ℕ, ◌≤◌, ◌≡◌, ◌⊎◌, true, List, [], ◌++◌, map, length}
 use Rattle.causes.specs.Causes.{carried_out, no_header, packet_sum}
 use Rattle.causes.specs.Checks.{Lowest}

@@ -62,7 +62,7 @@ fn kind_number(kind: Kind) -> u64 {
 }
 
 // Number, kind, header and frame, table sum, p, mark.
-fn head_line(p: &Packet) {
+fn head_line(p: Packet) {
     byte_word(p.number);
     let kind = p.kind;
     word(kind_number(kind));
@@ -90,7 +90,7 @@ fn settings_line(s: Settings) {
 pub fn packet(bytes: &[u8]) {
     hex_line(bytes);
     let p = ground::read(bytes);
-    head_line(&p);
+    head_line(p);
     settings_line(p.settings);
     let rates = p.rates;
     rates_line(&rates);

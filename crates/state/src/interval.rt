@@ -65,7 +65,7 @@ fn all_at_most(a: &[u32], limit: u32) -> bool
 
 // Taken, and every box and beacon count at most taken: where the counts lie, which saves two copies of them at each event.
 pub fn counts_within<'a>(taken: u32, boxes: &'a [u32; BOXES], beacons: &'a [u32; BEACONS]) -> bool
-    ensures { result ≡ counts_within taken (record { boxes = boxes.entry.now; beacons = beacons.now }) }
+    ensures { result ≡ counts_within taken (record { boxes = boxes.now; beacons = beacons.now }) }
 {
     (taken <= MOST_EVENTS) & all_at_most(boxes, taken) & all_at_most(beacons, taken)
 }

@@ -1,4 +1,4 @@
--- `counted` counts each outcome in the boxes and beacons that `countedOf` names, by one call or two.
+-- `counted` counts each outcome in the boxes and beacons that `counted_of` names, by one call or two.
 use Rattle.sort.specs.Boxes.{OutcomeNames}
 use Rattle.counts.specs.Counts.{counted_of}
 use mathlib.Core.Path.{sym, ap, ◌∙◌, subst}

@@ -1,4 +1,4 @@
--- `pack` appends the eight fields one by one, which is the sum that `recordOf` writes.
+-- `pack` appends the eight fields one by one, which is the sum that `record_of` writes.
 use Rattle.sample_record.specs.Record.{record_of}
 use Rattle.sample_record.proofs.pack.Goals as goal
 

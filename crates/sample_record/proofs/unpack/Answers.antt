@@ -1,4 +1,4 @@
--- `unpack` takes each field out by its own shift and width, as `sampleOf` does.
+-- `unpack` takes each field out by its own shift and width, as `sample_of` does.
 use Rattle.sample_record.specs.Record.{sample_of}
 use Rattle.sample_record.proofs.unpack.Goals as goal
 

@@ -1,4 +1,4 @@
--- `record_of` packs the fields of `sampleFrom`, which fit their bits.
+-- `record_of` packs the fields of `sample_from`, which fit their bits.
 use native.Mathlib.Omega.{arith}
 use Rattle.sort.proofs.EventLaws.{in_range_lem, channel_fits}
 use Rattle.samples.specs.Samples.{event_record}

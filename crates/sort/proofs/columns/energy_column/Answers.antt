@@ -1,4 +1,4 @@
--- `energy_column` divides the difference that `energy-sub` names.
+-- `energy_column` divides the difference that `energy_sub` names.
 use mathlib.Core.Path.{sym, ap, ◌∙◌}
 use lib.IntN.{ℤ}
 use mir.Syntax.{w32}

@@ -1,4 +1,4 @@
--- `mass_column` divides the difference that `mass-sub` names.
+-- `mass_column` divides the difference that `mass_sub` names.
 use mathlib.Core.Path.{sym, ap, ◌∙◌}
 use lib.IntN.{ℤ}
 use mir.Syntax.{w32}

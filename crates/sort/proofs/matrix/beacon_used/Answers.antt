@@ -1,4 +1,4 @@
--- `beacon_used` makes the test of `beaconUsed`.
+-- `beacon_used` makes the test of `beacon_used`.
 use borrow.Author.Tests.{le-leb, lt-leb}
 use Rattle.sort.proofs.matrix.beacon_used.Goals as goal
 

@@ -1,4 +1,4 @@
--- `box_used` makes the test of `boxUsed`.
+-- `box_used` makes the test of `box_used`.
 use Rattle.sort.proofs.matrix.box_used.Goals as goal
 
 pub returns-then-b : goal.returns-then-b
