@@ -9,8 +9,8 @@
 
 In docs/READING-THE-PROOFS.md each name of a row stands in one of the row's files, every must-fail edit is named in a row of its
 crate, and the functions of such a row stand in that crate. In docs/ARCHITECTURE.md every crate is named, and in its map each stands
-above all that it stands on. In docs/CHANGES.md a name of earlier days may stand that its table
-"Names that have changed" has in the first column, and a name in the spelling of its day.
+above all that it stands on. In docs/CHANGES.md a name of earlier days may stand that its table "Names that have changed" has in the
+first column, and a name in the spelling of its day. docs/PORT.md, which names what stood before the port, is left out.
 
     python3 tests/documents.py         prints what is missing; the last line is 'N passed, M failed'
 """
@@ -19,7 +19,8 @@ from pathlib import Path
 
 ROOT = Path(__file__).resolve().parent.parent
 CRATES = ROOT / "crates"
-DOCUMENTS = ["README.md", "bench/README.md", "reference/README.md", *sorted(f"docs/{p.name}" for p in (ROOT / "docs").glob("*.md"))]
+PAGES = sorted(f"docs/{p.name}" for p in (ROOT / "docs").glob("*.md") if p.name != "PORT.md")
+DOCUMENTS = ["README.md", "bench/README.md", "reference/README.md", *PAGES]
 READING = "docs/READING-THE-PROOFS.md"
 PATH = re.compile(r"^[\w.-]+(/[\w.-]+)+/?$")
 ENDINGS = (".rt", ".antt", ".edit", ".py", ".rs", ".sh", ".md", ".txt", ".c", ".bin")
@@ -31,7 +32,7 @@ WORD = re.compile(r"[A-Za-z][\w′]*(?:-[\w′]+)*|--[a-z][a-z-]*")
 # of the C library
 FOREIGN = {"memset"}
 # of the kit
-KIT = {"port.py", "rattle-kit-13f"}
+KIT = {"rattle-kit-13f"}
 
 
 def text_of(document):
@@ -103,8 +104,8 @@ def respelled(name):
 
 
 def unknown_names(document, words):
-    let = words | (earlier_names() if document == "docs/CHANGES.md" else set())
     earlier = document == "docs/CHANGES.md"
+    let = words | (earlier_names() if earlier else set())
     return [f"{document}: {n} stands nowhere" for n in dict.fromkeys(cited(document))
             if n not in let and not (earlier and (respelled(n) in words or respelled(n) + "_lem" in words))]
 
