@@ -83,7 +83,10 @@ def functions():
             starts = [m for m in FUNCTION.finditer(text)]
             ends = [m.start() for m in starts[1:]] + [len(text)]
             for m, end in zip(starts, ends):
-                found[f"{module}::{m.group(1)}"] = (module, imports, text[m.start():end])
+                # A trait's method stands once for each type: all of them together.
+                name = f"{module}::{m.group(1)}"
+                before = found[name][2] if name in found else ""
+                found[name] = (module, imports, before + text[m.start():end])
     return found
 
 
@@ -102,6 +105,12 @@ def calls_of(functions):
                 path,
                 "::".join([imports.get(first, first).replace("crate", crate), *rest]),
             ):
+                if whole in functions and whole != name:
+                    paths.add(whole)
+        # A method of an imported trait or type: it stands beside it.
+        for method in re.findall(r"\.(\w+)\s*\(", code):
+            for path in imports.values():
+                whole = f"{path.rpartition('::')[0]}::{method}"
                 if whole in functions and whole != name:
                     paths.add(whole)
         called[name] = paths

@@ -1,58 +1,39 @@
 // The answer to a close, printed.
-use crate::calls::{print_bytes, print_numbers};
+use crate::calls::{print_bytes, print_number};
+use buffered::text::{Numbers, Text};
+use causes::Cause;
 use counts::Counts;
 use output::Summary;
+use packet::layout::PACKET_BYTES;
 
 // A line for the boxes and one for the beacons.
-fn print_counts(rt: &HostRuntime, text: &mut [u8], at: &mut usize, counts: Counts) {
-    print_numbers(rt, text, at, b"boxes", &counts.boxes);
-    print_numbers(rt, text, at, b"beacons", &counts.beacons);
+fn print_counts(text: &mut Text, counts: Counts) {
+    writeln!(text, "boxes{}", Numbers(&counts.boxes));
+    writeln!(text, "beacons{}", Numbers(&counts.beacons));
 }
 
-pub(crate) fn print_out(rt: &HostRuntime, text: &mut [u8], at: &mut usize, packet: &[u8]) {
-    print_bytes(rt, text, at, b"out ", packet);
-}
-
-// A line for each packet.
-fn print_packets(rt: &HostRuntime, text: &mut [u8], at: &mut usize, packets: &[u8]) {
-    let mut rest = packets;
-    while packet::layout::PACKET_BYTES <= rest.len() {
-        print_out(rt, text, at, &rest[0..packet::layout::PACKET_BYTES]);
-        rest = &rest[packet::layout::PACKET_BYTES..];
-    }
+pub(crate) fn print_out(text: &mut Text, packet: &[u8]) {
+    print_bytes(text, "out", packet);
 }
 
 // The ended frame, taken and the filled slots behind the number; then the counts and the packets.
-fn print_ended(
-    rt: &HostRuntime,
-    text: &mut [u8],
-    at: &mut usize,
-    frame: u16,
-    ended: Summary,
-    packets: &[u8],
-) {
-    let carried = causes::CARRIED_OUT as u32;
-    buffered::text::bytes(rt, text, at, b"close");
-    buffered::text::numbers(rt, text, at, &[carried, frame as u32, ended.taken]);
-    buffered::text::number(rt, text, at, ended.filled as u64);
-    buffered::text::line_end(rt, text, at);
-    print_counts(rt, text, at, ended.counts);
-    print_packets(rt, text, at, packets);
+fn print_ended(text: &mut Text, frame: u16, ended: Summary, packets: &[u8]) {
+    let Summary {
+        taken,
+        counts,
+        filled,
+    } = ended;
+    writeln!(text, "close 0 {frame} {taken} {filled}");
+    print_counts(text, counts);
+    for packet in packets.chunks_exact(PACKET_BYTES) {
+        print_out(text, packet);
+    }
 }
 
 // Nothing behind the number of a refused close.
-pub fn print_close(
-    rt: &HostRuntime,
-    text: &mut [u8],
-    at: &mut usize,
-    frame: u16,
-    number: u8,
-    ended: Summary,
-    packets: &[u8],
-) {
-    if number == causes::CARRIED_OUT {
-        print_ended(rt, text, at, frame, ended, packets);
-    } else {
-        print_numbers(rt, text, at, b"close", &[number as u32]);
+pub fn print_close(text: &mut Text, frame: u16, answer: Result<Summary, Cause>, packets: &[u8]) {
+    match answer {
+        Ok(ended) => print_ended(text, frame, ended, packets),
+        Err(cause) => print_number(text, "close", cause.number()),
     }
 }

@@ -6,4 +6,3 @@ pub mod input;
 mod reason;
 pub mod text;
 pub mod transfer;
-pub mod turns;

@@ -1,18 +1,17 @@
-// Text for standard output, gathered in a lent buffer of which the first `at` bytes are filled. A full buffer is
-// written out. Once a read or a write has failed, `at` is OVER: no more text is taken, and no more input read.
-use crate::transfer::{tell, write_all};
+// Text for standard output, gathered in a lent buffer. A full buffer is written out.
+ghost use Rattle.std.specs.Prelude.{◌≡◌, ◌≤◌, true, false, length};
+
+use crate::transfer::tell;
 use echo::hex_digit;
-use std::io::ErrorKind;
-use wire::bits::wide32;
+use std::fmt;
+use std::fmt::{Display, Formatter};
+use std::io::{ErrorKind, Write};
 
 pub const TEXT_BYTES: usize = 65536;
 
-// Where `at` stands when the run is over: behind any buffer.
-pub const OVER: usize = usize::MAX;
-
 // Writes the bytes to standard output; whether all of them. That nobody reads them any more is not told.
 pub fn print(rt: &HostRuntime, bytes: &[u8]) -> bool {
-    match write_all(&mut rt.stdout(), bytes) {
+    match rt.stdout().write_all(bytes) {
         Ok(()) => true,
         Err(error) => {
             if error.kind() != ErrorKind::BrokenPipe {
@@ -23,72 +22,106 @@ pub fn print(rt: &HostRuntime, bytes: &[u8]) -> bool {
     }
 }
 
-// Writes out what is filled.
-pub fn flush(rt: &HostRuntime, text: &[u8], at: &mut usize) {
-    let n = *at;
-    if n <= text.len() {
-        *at = if print(rt, &text[..n]) { 0 } else { OVER };
+// The first `filled` bytes of the buffer are not yet written. Once a read or a write has failed, nothing is written any
+// more, and no more input read.
+#[derive(Drop)]
+pub struct Text<'a> {
+    rt: &'a HostRuntime,
+    buffer: &'a mut [u8],
+    filled: usize,
+    failed: bool,
+    ghost within: { filled ≤ length buffer.now },
+}
+
+impl<'a> Text<'a> {
+    // Nothing is gathered yet, and nothing has failed.
+    pub fn new(rt: &'a HostRuntime, buffer: &'a mut [u8]) -> Text<'a>
+        ensures { (result.filled ≡ 0) × (result.failed ≡ false) }
+    {
+        Text {
+            rt,
+            buffer,
+            filled: 0,
+            failed: false,
+        }
+    }
+
+    pub fn failed(&self) -> bool
+        ensures { result ≡ self.now.failed }
+    {
+        self.failed
+    }
+
+    pub(crate) fn rt(&self) -> &'a HostRuntime {
+        self.rt
+    }
+
+    // A read has failed.
+    pub(crate) fn fail(&mut self)
+        ensures { self.new.failed ≡ true }
+    {
+        self.failed = true;
+    }
+
+    // Writes out what is filled.
+    pub fn flush(&mut self) {
+        if !self.failed {
+            self.failed = !print(self.rt, &self.buffer[..self.filled]);
+            self.filled = 0;
+        }
+    }
+
+    pub fn byte(&mut self, b: u8) {
+        if self.filled == self.buffer.len() {
+            self.flush();
+        }
+        if self.filled < self.buffer.len() {
+            self.buffer[self.filled] = b;
+            self.filled += 1;
+        }
+    }
+
+    pub fn bytes(&mut self, s: &[u8]) {
+        for b in s {
+            self.byte(*b);
+        }
+    }
+
+    // Two digits for each byte. By a `Display` each digit would take some eighty instructions.
+    pub fn hex(&mut self, s: &[u8]) {
+        for b in s {
+            self.byte(hex_digit(*b / 16));
+            self.byte(hex_digit(*b % 16));
+        }
+    }
+
+    // What `write!` and `writeln!` call. A failure is not handed back, but kept.
+    pub fn write_fmt<D: Display + Drop>(&mut self, text: D) {
+        let _ = fmt::Write::write(self, text);
+    }
+
+    // What a bad kind or a short body prints.
+    pub fn bad_record(&mut self) {
+        self.bytes(b"bad record\n");
     }
 }
 
-// One byte.
-pub fn byte(rt: &HostRuntime, text: &mut [u8], at: &mut usize, b: u8) {
-    if text.len() <= *at {
-        flush(rt, text, at);
-    }
-    let i = *at;
-    if i < text.len() {
-        text[i] = b;
-        *at = i + 1;
+impl<'a> fmt::Write for Text<'a> {
+    fn write_str(&mut self, s: &str) -> fmt::Result {
+        self.bytes(s.as_bytes());
+        Ok(())
     }
 }
 
-pub fn bytes(rt: &HostRuntime, text: &mut [u8], at: &mut usize, s: &[u8]) {
-    let mut i: usize = 0;
-    while i < s.len() {
-        byte(rt, text, at, s[i]);
-        i += 1;
+// Numbers, each with a space before it.
+#[derive(Clone, Copy)]
+pub struct Numbers<'a>(pub &'a [u32]);
+
+impl<'a> Display for Numbers<'a> {
+    fn fmt<W: fmt::Write>(&self, f: &mut Formatter<W>) -> fmt::Result {
+        for n in self.0 {
+            write!(f, " {n}")?;
+        }
+        Ok(())
     }
-}
-
-// The digits of a number, in base ten.
-pub fn decimal(rt: &HostRuntime, text: &mut [u8], at: &mut usize, n: u64) {
-    let mut digits = [0u8; 20];
-    let k = io::decimal(n, &mut digits);
-    bytes(rt, text, at, &digits[..k]);
-}
-
-// A space and a number.
-pub fn number(rt: &HostRuntime, text: &mut [u8], at: &mut usize, n: u64) {
-    byte(rt, text, at, b' ');
-    decimal(rt, text, at, n);
-}
-
-// A space before each number.
-pub fn numbers(rt: &HostRuntime, text: &mut [u8], at: &mut usize, ns: &[u32]) {
-    let mut i: usize = 0;
-    while i < ns.len() {
-        number(rt, text, at, wide32(ns[i]));
-        i += 1;
-    }
-}
-
-// Two digits for each byte.
-pub fn hex(rt: &HostRuntime, text: &mut [u8], at: &mut usize, s: &[u8]) {
-    let mut i: usize = 0;
-    while i < s.len() {
-        let b = s[i];
-        byte(rt, text, at, hex_digit(b / 16));
-        byte(rt, text, at, hex_digit(b % 16));
-        i += 1;
-    }
-}
-
-pub fn line_end(rt: &HostRuntime, text: &mut [u8], at: &mut usize) {
-    byte(rt, text, at, b'\n');
-}
-
-// What a bad kind or a short body prints.
-pub fn bad_record(rt: &HostRuntime, text: &mut [u8], at: &mut usize) {
-    bytes(rt, text, at, b"bad record\n");
 }

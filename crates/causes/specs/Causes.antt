@@ -1,5 +1,7 @@
 -- The numbers of document 01, "Causes and their numbers", each with its sentence. Assumes nothing.
-use Rattle.std.specs.Prelude.{ℕ}
+use Rattle.std.specs.Prelude.{ℕ, Result, Ok, Err}
+use Rattle.causes.specs.declared.Cause.{Cause}
+use Rattle.causes.specs.declared.Cause.TheVariants.{BufferOrState, FieldRange, IntervalFull, LineBytes, WrongLine, LoadWaiting, CommandLimit, PackageForm, PastStaging, PackageSum, NoHeader, PacketSum, BodyFault, NotListed, BadStaged, SumDiffers, NoFirstCode}
 
 -- "A call that is carried out answers 0"
 abbrev pub carried_out : ℕ
@@ -73,3 +75,28 @@ sum_differs = 16
 -- document 02, Point 6: "17 when no first-edition code has some rate's least count, after 13"
 abbrev pub no_first_code : ℕ
 no_first_code = 17
+
+-- the number of a cause
+abbrev pub cause_number : Cause → ℕ
+cause_number BufferOrState = buffer_or_state
+cause_number FieldRange = field_range
+cause_number IntervalFull = interval_full
+cause_number LineBytes = line_bytes
+cause_number WrongLine = wrong_line
+cause_number LoadWaiting = load_waiting
+cause_number CommandLimit = command_limit
+cause_number PackageForm = package_form
+cause_number PastStaging = past_staging
+cause_number PackageSum = package_sum
+cause_number NoHeader = no_header
+cause_number PacketSum = packet_sum
+cause_number BodyFault = body_fault
+cause_number NotListed = not_listed
+cause_number BadStaged = bad_staged
+cause_number SumDiffers = sum_differs
+cause_number NoFirstCode = no_first_code
+
+-- what a call answers: 0 where it is carried out, and otherwise the number of its cause
+abbrev pub call_number : {A : Type 0} → Result A Cause → ℕ
+call_number (Ok _) = carried_out
+call_number (Err c) = cause_number c

@@ -22,11 +22,8 @@ use Rattle.command.specs.declared.command.Setting.{Setting}
 use Rattle.command.specs.declared.command.Setting.TheVariants.{Limhi, Eonly, Toferror, Junk, Hv, Hvstep}
 use Rattle.command.specs.declared.command.Line.{Line}
 use Rattle.command.specs.declared.command.Line.TheVariants.{Empty, Wrong, Change, LoadZero, LoadAt, Ask, Commit}
-use Rattle.command.specs.declared.traits.Leaves.{Leaves}
-use Rattle.command.specs.declared.traits.Leaves.TheVariants.{Nothing, Waits}
+use Rattle.std.specs.Prelude.{Option, Some, None}
 use Rattle.command.specs.declared.ranges.Ranges.{Ranges}
-use Rattle.command.specs.declared.argument.Argument.{Argument}
-use Rattle.command.specs.declared.argument.Argument.TheVariants.{Value, Malformed}
 
 -- a command in its ranges keeps the settings in theirs
 pub settings_kept : (s : Settings) (c : Command) (ranges : Ranges) → settings_within ranges.limhi s ≡ true → command_ok c ranges ≡ true
@@ -79,26 +76,26 @@ module _ (k : List ℕ) (ranges : Ranges) where
   settings_ok [] n es h = h
   settings_ok (w ∷ ws) n es h = lookup_ok w.0 (set_line w.1 n ranges) _ (set_ok w.1 n) (settings_ok ws n es h)
 
-one_ok : (k : List ℕ) (n : Argument) (ranges : Ranges) → line_ok (one_argument k n ranges) ranges ≡ true
+one_ok : (k : List ℕ) (n : Option ℕ) (ranges : Ranges) → line_ok (one_argument k n ranges) ranges ≡ true
 unfolding line_ok one_argument with_one
-one_ok k Malformed ranges = refl
-one_ok k (Value n) ranges =
+one_ok k None ranges = refl
+one_ok k (Some n) ranges =
     settings_ok k ranges setting_words n _
     (lookup_ok k ranges _ _ _ (right_ok (eqb n 0) LoadZero ranges (λ h. refl))
     (lookup_ok k ranges _ _ _ (right_ok (leb n ranges.reach) (LoadAt n) ranges (λ h. h)) (none_ok k ranges)))
 
-two_ok : (k : List ℕ) (n m : Argument) (ranges : Ranges) → line_ok (two_arguments k n m ranges) ranges ≡ true
+two_ok : (k : List ℕ) (n m : Option ℕ) (ranges : Ranges) → line_ok (two_arguments k n m ranges) ranges ≡ true
 unfolding line_ok two_arguments with_two
-two_ok k Malformed m ranges = refl
-two_ok k (Value n) Malformed ranges = refl
-two_ok k (Value n) (Value m) ranges = lookup_ok k ranges _ _ _ (right_ok _ Ask ranges (λ h. refl)) (none_ok k ranges)
+two_ok k None m ranges = refl
+two_ok k (Some n) None ranges = refl
+two_ok k (Some n) (Some m) ranges = lookup_ok k ranges _ _ _ (right_ok _ Ask ranges (λ h. refl)) (none_ok k ranges)
 
-three_ok : (k : List ℕ) (n m l : Argument) (ranges : Ranges) → line_ok (three_arguments k n m l ranges) ranges ≡ true
+three_ok : (k : List ℕ) (n m l : Option ℕ) (ranges : Ranges) → line_ok (three_arguments k n m l ranges) ranges ≡ true
 unfolding line_ok three_arguments with_three
-three_ok k Malformed m l ranges = refl
-three_ok k (Value n) Malformed l ranges = refl
-three_ok k (Value n) (Value m) Malformed ranges = refl
-three_ok k (Value n) (Value m) (Value l) ranges = lookup_ok k ranges _ _ _ (right_ok _ (Commit n m l) ranges (λ h. h)) (none_ok k ranges)
+three_ok k None m l ranges = refl
+three_ok k (Some n) None l ranges = refl
+three_ok k (Some n) (Some m) None ranges = refl
+three_ok k (Some n) (Some m) (Some l) ranges = lookup_ok k ranges _ _ _ (right_ok _ (Commit n m l) ranges (λ h. h)) (none_ok k ranges)
 
 of_words_ok : (ws : List (List ℕ)) (ranges : Ranges) → line_ok (of_words ws ranges) ranges ≡ true
 unfolding line_ok of_words
@@ -116,9 +113,9 @@ line_ok_lem line ranges =
 
 -- ---- what a line leaves waiting is in its ranges
 
-abbrev leaves_ok : Ranges → Leaves → Bool
-leaves_ok ranges Nothing = true
-leaves_ok ranges (Waits c) = command_ok c ranges
+abbrev leaves_ok : Ranges → Option Command → Bool
+leaves_ok ranges None = true
+leaves_ok ranges (Some c) = command_ok c ranges
 
 leaves_ok_lem : (l : Line) (ranges : Ranges) → line_ok l ranges ≡ true → leaves_ok ranges (traits_of l).leaves ≡ true
 unfolding line_ok
@@ -130,7 +127,7 @@ leaves_ok_lem (LoadAt a) ranges h = refl
 leaves_ok_lem Ask ranges h = refl
 leaves_ok_lem (Commit a y n) ranges h = h
 
-pub waits_ok : (line : List ℕ) (ranges : Ranges) (c : Command) → (traits_of (line_of line ranges)).leaves ≡ Waits c
+pub waits_ok : (line : List ℕ) (ranges : Ranges) (c : Command) → (traits_of (line_of line ranges)).leaves ≡ Some c
     → command_ok c ranges ≡ true
 waits_ok line ranges c e = sym (ap (leaves_ok ranges) e) ∙ leaves_ok_lem (line_of line ranges) ranges (line_ok_lem line ranges)
 

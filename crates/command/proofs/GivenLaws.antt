@@ -23,10 +23,8 @@ use Rattle.command.specs.declared.command.Command.TheVariants.{Set, Load}
 use Rattle.command.specs.declared.command.Setting.{Setting}
 use Rattle.command.specs.declared.command.Setting.TheVariants.{Limhi, Eonly, Toferror, Junk, Hv, Hvstep}
 use Rattle.command.specs.declared.command.Line.TheVariants.{Change, Commit}
-use Rattle.command.specs.declared.traits.Leaves.TheVariants.{Waits}
+use Rattle.std.specs.Prelude.{Option, Some}
 use Rattle.command.specs.declared.ranges.Ranges.{Ranges}
-use Rattle.command.specs.declared.argument.Argument.{Argument}
-use Rattle.command.specs.declared.argument.Argument.TheVariants.{Value}
 
 -- ---- a number in four digits
 
@@ -85,10 +83,10 @@ module _ (n : ℕ) (h : n < 65536) where
   unfolding line_words
   words_digits_more w = rw (d₁.apart, d₂.apart, d₃.apart, d₄.apart)
 
-  argument_digits : argument_of (digits n) ≡ Value n
+  argument_digits : argument_of (digits n) ≡ Some n
   unfolding argument_of
   argument_digits =
-      rw (d₁.is, d₂.is, d₃.is, d₄.is) (ap Value (rw (d₁.value, d₂.value, d₃.value, d₄.value) (omega arith)))
+      rw (d₁.is, d₂.is, d₃.is, d₄.is) (ap Some (rw (d₁.value, d₂.value, d₃.value, d₄.value) (omega arith)))
 
   all_digits : (w : List ℕ) → all printable (digits n ++ w) ≡ all printable w
   all_digits w = rw (d₁.shown, d₂.shown, d₃.shown, d₄.shown)
@@ -120,7 +118,7 @@ most_small Hvstep n ranges f h = omega arith
 -- a keyword and one number
 one_number : (k : List ℕ) (n : ℕ) (ranges : Ranges) → n < 65536 → of_words (k ∷ line_words (digits n)) ranges ≡ with_one k n ranges
 unfolding of_words one_argument
-one_number k n ranges h = rw (words_digits n h) (ap (λ (a : Argument). one_argument k a ranges) (argument_digits n h))
+one_number k n ranges h = rw (words_digits n h) (ap (λ (a : Option ℕ). one_argument k a ranges) (argument_digits n h))
 
 -- and three
 three_numbers : (k : List ℕ) (a y n : ℕ) (ranges : Ranges) → a < 65536 → y < 65536 → n < 65536
@@ -142,7 +140,7 @@ gives_set Hv n ranges h g = one_number (text "hv") n ranges h ∙ rw g
 gives_set Hvstep n ranges h g = one_number (text "hvstep") n ranges h ∙ rw g
 
 gives : (c : Command) (ranges : Ranges) → ranges.limhi < 65536 → command_ok c ranges ≡ true
-    → (traits_of (line_of (line_for c) ranges)).leaves ≡ Waits c
+    → (traits_of (line_of (line_for c) ranges)).leaves ≡ Some c
 unfolding line_of line_words with_three lookup_keyword same right_if
 gives (Set k n) ranges f h =
     ap (λ (l : Line). (traits_of l).leaves) (gives_set k n ranges (most_small k n ranges f (leb-true n (most_of k ranges) h)) h)
@@ -168,5 +166,5 @@ line_bytes_lem (Load a y) ranges f h =
 
 -- a command that is ok is what some line leaves waiting. LIMHI is a 16-bit number, so that four digits hold it
 pub ok_given : (c : Command) (ranges : Ranges) → ranges.limhi < 65536 → command_ok c ranges ≡ true
-    → (line : List ℕ) × ((bytes_ok line ≡ true) × ((traits_of (line_of line ranges)).leaves ≡ Waits c))
+    → (line : List ℕ) × ((bytes_ok line ≡ true) × ((traits_of (line_of line ranges)).leaves ≡ Some c))
 ok_given c ranges f h = (line_for c, (line_bytes_lem c ranges f h, gives c ranges f h))

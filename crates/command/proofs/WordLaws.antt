@@ -1,26 +1,27 @@
 -- Laws of words, and of lines made of them. Assumes nothing.
 use mathlib.Core.Path.{◌≡◌, refl, sym, ap, ◌∙◌}
-use mathlib.Core.Bool.{false, ◌&&◌}
+use mathlib.Core.Bool.{Bool, false, ◌&&◌}
+use Rattle.std.specs.List.{list_all}
 use mathlib.Core.List.{List, [], ◌∷◌}
 use mathlib.Core.Logic.{⊎_elim}
-use Prim.Native.Nat.{ℕ, suc, ◌+◌, ◌-◌, ◌≤◌, ◌<◌}
+use Prim.Native.Nat.{ℕ, suc, ◌-◌, ◌≤◌, ◌<◌}
 use native.Mathlib.Omega.{arith}
-use native.Mathlib.Numerals.{add-one}
 use native.Mathlib.Nat.{not-suc-le-zero}
 use lib.ListN.{length, take, drop, length-drop}
 use lib.Seq.{take_all}
 use lib.Dec.{eqb, ltb}
-use borrow.Author.Tests.{ne_eqb, eqb-true, ltb-true, ltb-false}
+use borrow.Author.Tests.{eqb-true, ltb-true, ltb-false}
 use Rattle.wire.specs.Lists.{all}
 use Rattle.wire.specs.Words.{length_before}
 use Rattle.wire.proofs.Lists.{either, and_false}
-use Rattle.command.specs.Grammar.{line_words, onto, is_digit, argument_of, one_argument, two_arguments, three_arguments}
-use Rattle.command.specs.Grammar.{of_words, line_of}
-use Rattle.command.specs.Parsing.{more_words}
-use Rattle.command.specs.declared.command.Line.TheVariants.{Wrong}
-use Rattle.command.specs.declared.ranges.Ranges.{Ranges}
-use Rattle.command.specs.declared.argument.Argument.{Argument}
-use Rattle.command.specs.declared.argument.Argument.TheVariants.{Value, Malformed}
+use Rattle.command.specs.Grammar.{line_words, onto, is_digit, argument_of}
+use Rattle.command.specs.Parsing.{arguments_in, three_of}
+use Rattle.std.specs.Prelude.{Option, Some, None}
+
+-- what the library says of every byte
+pub all_is : {A : Type 0} (p : A → Bool) (xs : List A) → list_all p xs ≡ all p xs
+all_is p [] = refl
+all_is p (x ∷ xs) = rw (all_is p xs)
 
 -- ---- the first word
 
@@ -57,85 +58,36 @@ spaced (b ∷ bs) h =
     rw (spaced bs (omega arith)) (and_false (is_digit b)))
     (either (eqb b 32))
 
-pub spaced_argument : (w : List ℕ) → length_before 32 w < length w → argument_of w ≡ Malformed
+pub spaced_argument : (w : List ℕ) → length_before 32 w < length w → argument_of w ≡ None
 unfolding argument_of
 spaced_argument w h = rw (spaced w h, and_false)
 
--- ---- lines of more than one argument
+-- ---- the arguments
 
-pub more_is : (k a : List ℕ) (ws : List (List ℕ)) (ranges : Ranges) → of_words (k ∷ a ∷ ws) ranges ≡ more_words k (argument_of a) ws ranges
-unfolding of_words more_words
-more_is k a [] ranges = refl
-more_is k a (b ∷ []) ranges = refl
-more_is k a (b ∷ c ∷ []) ranges = refl
-more_is k a (b ∷ c ∷ d ∷ ws) ranges = refl
-
-too_many : (k : List ℕ) (a : Argument) (b c w : List ℕ) (ranges : Ranges) → more_words k a (b ∷ c ∷ line_words w) ranges ≡ Wrong
-unfolding more_words line_words
-too_many k a b c [] ranges = refl
-too_many k a b c (x ∷ xs) ranges =
-    ⊎_elim (λ e. rw e refl) (λ e. rw e (from (line_words xs))) (either (eqb x 32))
+too_many : (a b c w : List ℕ) → arguments_in (a ∷ b ∷ c ∷ line_words w) ≡ None
+unfolding arguments_in line_words
+too_many a b c [] = refl
+too_many a b c (x ∷ xs) = ⊎_elim (λ e. rw e refl) (λ e. rw e (from (line_words xs))) (either (eqb x 32))
   where
-    from : (ws : List (List ℕ)) → more_words k a (b ∷ c ∷ onto x ws) ranges ≡ Wrong
+    from : (ws : List (List ℕ)) → arguments_in (a ∷ b ∷ c ∷ onto x ws) ≡ None
     from [] = refl
     from (w ∷ ws) = refl
 
-malformed : (k : List ℕ) (n m : Argument) (ranges : Ranges) → three_arguments k n m Malformed ranges ≡ Wrong
-unfolding three_arguments
-malformed k Malformed m ranges = refl
-malformed k (Value n) Malformed ranges = refl
-malformed k (Value n) (Value m) ranges = refl
+pub third_none : (x y : Option ℕ) → three_of x y None ≡ None
+third_none None y = refl
+third_none (Some n) None = refl
+third_none (Some n) (Some m) = refl
 
--- what stands behind the third space is the third argument, or the line is wrong
-more_three : (k : List ℕ) (a : Argument) (b w : List ℕ) (ranges : Ranges)
-    → more_words k a (b ∷ line_words w) ranges ≡ three_arguments k a (argument_of b) (argument_of w) ranges
-unfolding more_words
-more_three k a b w ranges =
+-- what stands behind the third space is the third argument, or there are too many
+pub three_in : (a b w : List ℕ) → arguments_in (a ∷ b ∷ line_words w) ≡ three_of (argument_of a) (argument_of b) (argument_of w)
+unfolding arguments_in
+three_in a b w =
     ⊎_elim
     (λ e.
     let h : length_before 32 w < length w = ltb-true _ _ e in
-    rw (words_more w h, spaced_argument w h) (too_many k a b _ _ ranges ∙ sym (malformed k a (argument_of b) ranges)))
+    rw (words_more w h, spaced_argument w h) (too_many a b _ _ ∙ sym (third_none (argument_of a) (argument_of b))))
     (λ e. rw (words_one w (ltb-false _ _ e)))
     (either (ltb (length_before 32 w) (length w)))
 
--- the words behind a first argument, by their first space
-module _ (k : List ℕ) (a : Argument) (rest : List ℕ) (ranges : Ranges) where
-  pub more_one : length rest ≤ length_before 32 rest → more_words k a (line_words rest) ranges ≡ two_arguments k a (argument_of rest) ranges
-  unfolding more_words
-  more_one q = rw (words_one rest q)
-
-  pub more_two : (n : ℕ) (last : List ℕ) → n ≡ length_before 32 rest → last ≡ drop (n + 1) rest → n < length rest
-      → more_words k a (line_words rest) ranges ≡ three_arguments k a (argument_of (take n rest)) (argument_of last) ranges
-  more_two n last e d q =
-      let m : ℕ = length_before 32 rest in
-      rw (words_more rest (omega arith), d, e, add-one) (more_three k a (take m rest) (drop (suc m) rest) ranges)
-
--- ---- a line by its first spaces
-
 pub rest_is : (xs : List ℕ) (a : ℕ) → take (length xs - a) (drop a xs) ≡ drop a xs
 rest_is xs a = take_all (length xs - a) (drop a xs) (omega (arith, length-drop a xs))
-
-module _ (line : List ℕ) (ranges : Ranges) (k : ℕ) (h : length line ≡ 0 → ⊥) (e : k ≡ length_before 32 line) where
-  -- no space
-  pub line_bare : length line ≤ k → line_of line ranges ≡ Wrong
-  unfolding line_of of_words
-  line_bare g = rw (ne_eqb _ _ h) (rw (words_one line (omega arith)))
-
-  module _ (rest : List ℕ) (d : rest ≡ drop (k + 1) line) (g : k < length line) where
-    words_at_lem : line_words line ≡ take k line ∷ line_words rest
-    words_at_lem = rw (d, e, add-one) (words_more line (omega arith))
-
-    -- one space
-    pub line_one : length rest ≤ length_before 32 rest → line_of line ranges ≡ one_argument (take k line) (argument_of rest) ranges
-    unfolding line_of of_words
-    line_one q = rw (ne_eqb _ _ h) (rw (words_at_lem, words_one rest q))
-
-    -- more
-    pub line_more : (m : ℕ) (last : List ℕ) → m ≡ length_before 32 rest → last ≡ drop (m + 1) rest → m < length rest
-        → line_of line ranges ≡ more_words (take k line) (argument_of (take m rest)) (line_words last) ranges
-    unfolding line_of
-    line_more m last em dm q =
-        let n : ℕ = length_before 32 rest in
-        rw (ne_eqb _ _ h)
-        (rw (words_at_lem, words_more rest (omega arith), dm, em, add-one)
-        (more_is (take k line) (take n rest) (line_words (drop (suc n) rest)) ranges))

@@ -4,10 +4,7 @@ use Rattle.command.specs.declared.command.Command.{Command}
 use Rattle.command.specs.declared.command.Command.TheVariants.{Set, Load}
 use Rattle.command.specs.declared.command.Line.{Line}
 use Rattle.command.specs.declared.command.Line.TheVariants.{Empty, Wrong, Change, LoadZero, LoadAt, Ask, Commit}
-use Rattle.command.specs.declared.traits.Leaves.{Leaves}
-use Rattle.command.specs.declared.traits.Leaves.TheVariants.{Nothing, Waits}
-use Rattle.command.specs.declared.traits.Sum.{Sum}
-use Rattle.command.specs.declared.traits.Sum.TheVariants.{Any, Named}
+use Rattle.std.specs.Prelude.{Option, Some, None}
 use Rattle.command.specs.declared.traits.Traits.{Traits}
 
 abbrev pub is_load : Command → Bool
@@ -24,28 +21,28 @@ is_load (Load a y) = true
 --     leaves     the command that it leaves waiting until close
 
 abbrev pub no_command : (wrong : Bool) → Traits
-no_command wrong = record { wrong = wrong; command = false; staging = false; load = false; ask = false; sum = Any; leaves = Nothing }
+no_command wrong = record { wrong = wrong; command = false; staging = false; load = false; ask = false; sum = None; leaves = None }
 
 -- "ask a y" checks "that no byte below the reach was last written by a package with a wrong sum", "commit a y sum" "is checked
 -- likewise"; "while it waits 6 holds, for ask and commit too"
-abbrev pub about_load : (ask : Bool) → Sum → Leaves → Traits
+abbrev pub about_load : (ask : Bool) → Option ℕ → Option Command → Traits
 about_load ask sum leaves = record { wrong = false; command = true; staging = true; load = true; ask = ask; sum = sum; leaves = leaves }
 
-abbrev pub other_command : (staging : Bool) → Leaves → Traits
+abbrev pub other_command : (staging : Bool) → Option Command → Traits
 other_command staging leaves =
-    record { wrong = false; command = true; staging = staging; load = false; ask = false; sum = Any; leaves = leaves }
+    record { wrong = false; command = true; staging = staging; load = false; ask = false; sum = None; leaves = leaves }
 
 -- a commit "waits as load did"
 abbrev pub traits_of : Line → Traits
 traits_of Empty = no_command false
 traits_of Wrong = no_command true
-traits_of (Change k n) = other_command false (Waits (Set k n))
-traits_of LoadZero = other_command true Nothing
-traits_of (LoadAt a) = other_command true Nothing
-traits_of Ask = about_load true Any Nothing
-traits_of (Commit a y n) = about_load false (Named n) (Waits (Load a y))
+traits_of (Change k n) = other_command false (Some (Set k n))
+traits_of LoadZero = other_command true None
+traits_of (LoadAt a) = other_command true None
+traits_of Ask = about_load true None None
+traits_of (Commit a y n) = about_load false (Some n) (Some (Load a y))
 
 -- whether the sum of the staged bytes is the one that a line names, where it names one
-abbrev pub sum_agrees : Sum → (sum : ℕ) → Bool
-sum_agrees Any sum = true
-sum_agrees (Named n) sum = eqb n sum
+abbrev pub sum_agrees : Option ℕ → (sum : ℕ) → Bool
+sum_agrees None sum = true
+sum_agrees (Some n) sum = eqb n sum

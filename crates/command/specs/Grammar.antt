@@ -13,8 +13,7 @@ use Rattle.command.specs.declared.command.Setting.TheVariants.{Limhi, Eonly, Tof
 use Rattle.command.specs.declared.command.Line.{Line}
 use Rattle.command.specs.declared.command.Line.TheVariants.{Empty, Wrong, Change, LoadZero, LoadAt, Ask, Commit}
 use Rattle.command.specs.declared.ranges.Ranges.{Ranges}
-use Rattle.command.specs.declared.argument.Argument.{Argument}
-use Rattle.command.specs.declared.argument.Argument.TheVariants.{Value, Malformed}
+use Rattle.std.specs.Prelude.{Option, Some, None}
 
 -- ---- bytes
 
@@ -62,8 +61,8 @@ abbrev pub hex_value : List ℕ → ℕ
 hex_value w = hex_behind 0 w
 
 -- "arguments of one to six digits 0-9 a-f"
-unfoldable pub argument_of : List ℕ → Argument
-argument_of w = cond (leb 1 (length w) && leb (length w) 6 && all is_digit w) (Value (hex_value w)) Malformed
+unfoldable pub argument_of : List ℕ → Option ℕ
+argument_of w = cond (leb 1 (length w) && leb (length w) 6 && all is_digit w) (Some (hex_value w)) None
 
 -- ---- keywords and ranges
 
@@ -117,22 +116,22 @@ with_three k a y sum ranges = lookup_keyword k (("commit", right_if (load_lawful
 -- ---- lines
 
 -- a keyword with an argument
-unfoldable pub one_argument : List ℕ → Argument → Ranges → Line
-one_argument k Malformed ranges = Wrong
-one_argument k (Value n) ranges = with_one k n ranges
+unfoldable pub one_argument : List ℕ → Option ℕ → Ranges → Line
+one_argument k None ranges = Wrong
+one_argument k (Some n) ranges = with_one k n ranges
 
 -- a keyword with two
-unfoldable pub two_arguments : List ℕ → Argument → Argument → Ranges → Line
-two_arguments k Malformed b ranges = Wrong
-two_arguments k (Value n) Malformed ranges = Wrong
-two_arguments k (Value n) (Value m) ranges = with_two k n m ranges
+unfoldable pub two_arguments : List ℕ → Option ℕ → Option ℕ → Ranges → Line
+two_arguments k None b ranges = Wrong
+two_arguments k (Some n) None ranges = Wrong
+two_arguments k (Some n) (Some m) ranges = with_two k n m ranges
 
 -- and with three
-unfoldable pub three_arguments : List ℕ → Argument → Argument → Argument → Ranges → Line
-three_arguments k Malformed b c ranges = Wrong
-three_arguments k (Value n) Malformed c ranges = Wrong
-three_arguments k (Value n) (Value m) Malformed ranges = Wrong
-three_arguments k (Value n) (Value m) (Value l) ranges = with_three k n m l ranges
+unfoldable pub three_arguments : List ℕ → Option ℕ → Option ℕ → Option ℕ → Ranges → Line
+three_arguments k None b c ranges = Wrong
+three_arguments k (Some n) None c ranges = Wrong
+three_arguments k (Some n) (Some m) None ranges = Wrong
+three_arguments k (Some n) (Some m) (Some l) ranges = with_three k n m l ranges
 
 -- "a keyword, then arguments .., one space before each": the first word is the keyword, the others the arguments
 unfoldable pub of_words : List (List ℕ) → Ranges → Line

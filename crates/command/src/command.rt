@@ -21,7 +21,8 @@ pub enum Setting {
 pub enum Command {
     // The setting, and its new value.
     Set(Setting, u16),
-    // The address of the first word, and how the bytes are packed.
+    // The address of the first word, and the y by which the bytes are packed. It stays a number: the state's image holds any byte
+    // there, and the limits refuse one that stands for no way to pack.
     Load(u32, u8),
 }
 
@@ -29,7 +30,7 @@ pub enum Command {
 #[derive(Clone, Copy)]
 pub enum Line {
     Empty,
-    // An unknown keyword or a wrong argument.
+    // An unknown keyword or a wrong argument: a case, and no error, since the grammar gives every line one.
     Wrong,
     // A setting, and its new value from the close on.
     Change(Setting, u16),
@@ -42,36 +43,37 @@ pub enum Line {
     Commit(u32, u8, u32),
 }
 
-// The largest value of a setting; the least is 0. That of a flag is 1.
-pub fn most_of(k: Setting, ranges: Ranges) -> u16
-    ensures { result ≡ most_of k ranges }
-{
-    match k {
-        Setting::Limhi => ranges.limhi,
-        Setting::Eonly => 1,
-        Setting::Toferror => 1,
-        Setting::Junk => 1,
-        Setting::Hv => 1,
-        Setting::Hvstep => 255,
+impl Setting {
+    // The largest value of the setting; the least is 0. That of a flag is 1.
+    pub fn most(self, ranges: Ranges) -> u16
+        ensures { result ≡ most_of self ranges }
+    {
+        match self {
+            Setting::Limhi => ranges.limhi,
+            Setting::Eonly => 1,
+            Setting::Toferror => 1,
+            Setting::Junk => 1,
+            Setting::Hv => 1,
+            Setting::Hvstep => 255,
+        }
     }
 }
 
-// Whether some line gives this command in these ranges.
-pub fn command_ok(c: Command, ranges: Ranges) -> bool
-    ensures { result ≡ command_ok c ranges }
-{
-    match c {
-        Command::Set(k, n) => n <= most_of(k, ranges),
-        Command::Load(a, y) => load::words::load_lawful(a, y, ranges.reach),
+impl Command {
+    // Whether some line gives this command in these ranges.
+    pub fn ok(self, ranges: Ranges) -> bool
+        ensures { result ≡ command_ok self ranges }
+    {
+        match self {
+            Command::Set(setting, n) => n <= setting.most(ranges),
+            Command::Load(a, y) => load::words::load_lawful(a, y, ranges.reach),
+        }
     }
-}
 
-// Whether a command is a load.
-pub fn is_load(c: Command) -> bool
-    ensures { result ≡ is_load c }
-{
-    match c {
-        Command::Set(_, _) => false,
-        Command::Load(_, _) => true,
+    // Whether the command is a load.
+    pub fn is_load(self) -> bool
+        ensures { result ≡ is_load self }
+    {
+        matches!(self, Command::Load(_, _))
     }
 }

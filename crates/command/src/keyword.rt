@@ -1,143 +1,115 @@
-// Keywords with their arguments, each in its range.
-ghost use Rattle.std.specs.Prelude.{◌≡◌, cond};
+// Keywords, and the lines that they make of arguments, each in its range.
+ghost use Rattle.std.specs.Prelude.{◌≡◌};
 ghost use Rattle.wire.specs.Words.{same};
-ghost use Rattle.command.specs.Grammar.{right_if, set_line, with_one, with_two, with_three};
-ghost use Rattle.command.specs.Grammar.{one_argument, two_arguments, three_arguments};
-ghost use Rattle.load.specs.Load.{load_lawful};
+ghost use Rattle.command.specs.Grammar.{set_line};
+ghost use Rattle.command.specs.Parsing.{keyword_of, or_wrong, with_arguments, lawful_packing};
 
-use crate::argument::Argument;
-use crate::command::{Line, Setting, most_of};
+use crate::command::{Line, Setting};
 use crate::ranges::Ranges;
-use load::words::{TWO_BYTES, load_lawful};
-use wire::words::same;
+use load::words::load_lawful;
 
-fn right_if(ok: bool, l: Line) -> Line
-    ensures { result ≡ right_if ok l }
-{
-    if ok { l } else { Line::Wrong }
+// The first word of a line.
+#[derive(Clone, Copy)]
+pub enum Keyword {
+    Sets(Setting),
+    Load,
+    LoadAt,
+    Ask,
+    Commit,
 }
 
-// The line that sets a setting to n.
-fn set_line(k: Setting, n: u32, ranges: Ranges) -> Line
-    ensures { result ≡ set_line k n ranges }
-{
-    if n <= most_of(k, ranges) as u32 {
-        Line::Change(k, n as u16)
-    } else {
-        Line::Wrong
+// What stands behind the keyword: one to three numbers.
+#[derive(Clone, Copy)]
+pub enum Arguments {
+    One(u32),
+    Two(u32, u32),
+    Three(u32, u32, u32),
+}
+
+impl Keyword {
+    // The keyword that the word is. A test for each: a `match` on byte strings parts at single bytes, into 58 ways, and the proof with it.
+    #[tactic(auto, unfolding(crate::specs::Parsing::keyword_of))]
+    pub fn named(word: &[u8]) -> Option<Keyword>
+        ensures { result ≡ keyword_of word.now }
+    {
+        if is(word, b"limhi") {
+            return Some(Keyword::Sets(Setting::Limhi));
+        }
+        if is(word, b"eonly") {
+            return Some(Keyword::Sets(Setting::Eonly));
+        }
+        if is(word, b"toferror") {
+            return Some(Keyword::Sets(Setting::Toferror));
+        }
+        if is(word, b"junk") {
+            return Some(Keyword::Sets(Setting::Junk));
+        }
+        if is(word, b"hv") {
+            return Some(Keyword::Sets(Setting::Hv));
+        }
+        if is(word, b"hvstep") {
+            return Some(Keyword::Sets(Setting::Hvstep));
+        }
+        if is(word, b"load") {
+            return Some(Keyword::Load);
+        }
+        if is(word, b"loadat") {
+            return Some(Keyword::LoadAt);
+        }
+        if is(word, b"ask") {
+            return Some(Keyword::Ask);
+        }
+        if is(word, b"commit") {
+            return Some(Keyword::Commit);
+        }
+        None
+    }
+
+    // The line that the keyword makes of its arguments, where they are in their ranges.
+    #[tactic(auto, unfolding(crate::specs::Grammar::right_if))]
+    pub fn with(self, arguments: Arguments, ranges: Ranges) -> Option<Line>
+        ensures { or_wrong result ≡ with_arguments self arguments ranges }
+    {
+        match (self, arguments) {
+            (Keyword::Sets(setting), Arguments::One(n)) => set_line(setting, n, ranges),
+            (Keyword::Load, Arguments::One(n)) => (n == 0).then_some(Line::LoadZero),
+            (Keyword::LoadAt, Arguments::One(a)) => {
+                (a <= ranges.reach).then_some(Line::LoadAt(a))
+            }
+            (Keyword::Ask, Arguments::Two(a, y)) => {
+                lawful_packing(a, y, ranges)?;
+                Some(Line::Ask)
+            }
+            (Keyword::Commit, Arguments::Three(a, y, sum)) => {
+                Some(Line::Commit(a, lawful_packing(a, y, ranges)?, sum))
+            }
+            _ => None,
+        }
     }
 }
 
-fn ask_line(a: u32, y: u32, reach: u32) -> Line
-    ensures { result ≡ right_if (load_lawful a y reach) Line.Ask }
+// The line that sets the setting to n.
+#[tactic(auto, unfolding(crate::specs::Grammar::right_if))]
+fn set_line(setting: Setting, n: u32, ranges: Ranges) -> Option<Line>
+    ensures { or_wrong result ≡ set_line setting n ranges }
 {
-    if y > TWO_BYTES as u32 {
-        return Line::Wrong;
-    }
-    right_if(load_lawful(a, y as u8, reach), Line::Ask)
+    let n = u16::try_from(n).ok()?;
+    (n <= setting.most(ranges)).then_some(Line::Change(setting, n))
 }
 
-fn commit_line(a: u32, y: u32, sum: u32, reach: u32) -> Line
-    ensures { result ≡ right_if (load_lawful a y reach) (Line.Commit a y sum) }
+// Whether the word is the keyword.
+#[tactic(auto, using(wire::proofs::WordLaws::same_is))]
+fn is(word: &[u8], keyword: &[u8]) -> bool
+    ensures { result ≡ same word.now keyword.now }
 {
-    if y > TWO_BYTES as u32 {
-        return Line::Wrong;
-    }
-    let how = y as u8;
-    right_if(load_lawful(a, how, reach), Line::Commit(a, how, sum))
+    word == keyword
 }
 
-// A row of a table of keywords: its line where the keyword is the row's word, and otherwise what the rows behind it say.
-fn row(keyword: &[u8], word: &[u8], l: Line, behind: Line) -> Line
-    ensures { result ≡ cond (same keyword.now word.now) l behind }
+// The way to pack y of a load from a on, where the load is lawful.
+#[tactic(auto, unfolding(load::specs::Load::load_lawful))]
+fn lawful_packing(a: u32, y: u32, ranges: Ranges) -> Option<u8>
+    ensures { result ≡ lawful_packing a y ranges }
 {
-    if same(keyword, word) { l } else { behind }
-}
-
-// A keyword with one argument: the table's rows, from the last to the first.
-fn with_one(keyword: &[u8], n: u32, ranges: Ranges) -> Line
-    ensures { result ≡ with_one keyword.now n ranges }
-{
-    let loadat = right_if(n <= ranges.reach, Line::LoadAt(n));
-    let l = row(keyword, b"loadat", loadat, Line::Wrong);
-    let l = row(keyword, b"load", right_if(n == 0, Line::LoadZero), l);
-    let l = row(keyword, b"hvstep", set_line(Setting::Hvstep, n, ranges), l);
-    let l = row(keyword, b"hv", set_line(Setting::Hv, n, ranges), l);
-    let l = row(keyword, b"junk", set_line(Setting::Junk, n, ranges), l);
-    let l = row(
-        keyword,
-        b"toferror",
-        set_line(Setting::Toferror, n, ranges),
-        l,
-    );
-    let l = row(keyword, b"eonly", set_line(Setting::Eonly, n, ranges), l);
-    row(keyword, b"limhi", set_line(Setting::Limhi, n, ranges), l)
-}
-
-// A keyword with two arguments.
-fn with_two(keyword: &[u8], a: u32, y: u32, ranges: Ranges) -> Line
-    ensures { result ≡ with_two keyword.now a y ranges }
-{
-    row(keyword, b"ask", ask_line(a, y, ranges.reach), Line::Wrong)
-}
-
-// A keyword with three.
-fn with_three(keyword: &[u8], a: u32, y: u32, sum: u32, ranges: Ranges) -> Line
-    ensures { result ≡ with_three keyword.now a y sum ranges }
-{
-    row(
-        keyword,
-        b"commit",
-        commit_line(a, y, sum, ranges.reach),
-        Line::Wrong,
-    )
-}
-
-pub fn one_argument(keyword: &[u8], n: Argument, ranges: Ranges) -> Line
-    ensures { result ≡ one_argument keyword.now n ranges }
-{
-    match n {
-        Argument::Value(x) => with_one(keyword, x, ranges),
-        Argument::Malformed => Line::Wrong,
-    }
-}
-
-pub fn two_arguments(keyword: &[u8], n: Argument, m: Argument, ranges: Ranges) -> Line
-    ensures { result ≡ two_arguments keyword.now n m ranges }
-{
-    match n {
-        Argument::Value(x) => match m {
-            Argument::Value(y) => with_two(keyword, x, y, ranges),
-            Argument::Malformed => Line::Wrong,
-        },
-        Argument::Malformed => Line::Wrong,
-    }
-}
-
-// The first argument is a number, the others may be none.
-fn after_first(keyword: &[u8], a: u32, m: Argument, l: Argument, ranges: Ranges) -> Line
-    ensures { result ≡ three_arguments keyword.now (Argument.Value a) m l ranges }
-{
-    match m {
-        Argument::Value(y) => match l {
-            Argument::Value(sum) => with_three(keyword, a, y, sum, ranges),
-            Argument::Malformed => Line::Wrong,
-        },
-        Argument::Malformed => Line::Wrong,
-    }
-}
-
-pub fn three_arguments(
-    keyword: &[u8],
-    n: Argument,
-    m: Argument,
-    l: Argument,
-    ranges: Ranges,
-) -> Line
-    ensures { result ≡ three_arguments keyword.now n m l ranges }
-{
-    match n {
-        Argument::Value(a) => after_first(keyword, a, m, l, ranges),
-        Argument::Malformed => Line::Wrong,
-    }
+    let y = u8::try_from(y).ok()?;
+    load_lawful(a, y, ranges.reach).then_some(y)
 }

@@ -4,20 +4,6 @@ ghost use Rattle.command.specs.Asked.{no_command, about_load, other_command, tra
 
 use crate::command::{Command, Line};
 
-// The command that a line leaves waiting for the close.
-#[derive(Clone, Copy)]
-pub enum Leaves {
-    Nothing,
-    Waits(Command),
-}
-
-// The sum that the staged bytes must have.
-#[derive(Clone, Copy)]
-pub enum Sum {
-    Any,
-    Named(u32),
-}
-
 #[derive(Clone, Copy)]
 pub struct Traits {
     // The keyword is unknown or an argument is wrong.
@@ -30,8 +16,10 @@ pub struct Traits {
     pub load: bool,
     // It asks for the sum of the staged bytes.
     pub ask: bool,
-    pub sum: Sum,
-    pub leaves: Leaves,
+    // The sum that the staged bytes must have.
+    pub sum: Option<u32>,
+    // The command that it leaves waiting for the close.
+    pub leaves: Option<Command>,
 }
 
 fn no_command(wrong: bool) -> Traits
@@ -43,13 +31,13 @@ fn no_command(wrong: bool) -> Traits
         staging: false,
         load: false,
         ask: false,
-        sum: Sum::Any,
-        leaves: Leaves::Nothing,
+        sum: None,
+        leaves: None,
     }
 }
 
 // A command about a load of the staged bytes.
-fn about_load(ask: bool, sum: Sum, leaves: Leaves) -> Traits
+fn about_load(ask: bool, sum: Option<u32>, leaves: Option<Command>) -> Traits
     ensures { result ≡ about_load ask sum leaves }
 {
     Traits {
@@ -63,7 +51,7 @@ fn about_load(ask: bool, sum: Sum, leaves: Leaves) -> Traits
     }
 }
 
-fn other_command(staging: bool, leaves: Leaves) -> Traits
+fn other_command(staging: bool, leaves: Option<Command>) -> Traits
     ensures { result ≡ other_command staging leaves }
 {
     Traits {
@@ -72,7 +60,7 @@ fn other_command(staging: bool, leaves: Leaves) -> Traits
         staging,
         load: false,
         ask: false,
-        sum: Sum::Any,
+        sum: None,
         leaves,
     }
 }
@@ -83,22 +71,20 @@ pub fn traits_of(l: Line) -> Traits
     match l {
         Line::Empty => no_command(false),
         Line::Wrong => no_command(true),
-        Line::Change(k, n) => other_command(false, Leaves::Waits(Command::Set(k, n))),
-        Line::LoadZero => other_command(true, Leaves::Nothing),
-        Line::LoadAt(_) => other_command(true, Leaves::Nothing),
-        Line::Ask => about_load(true, Sum::Any, Leaves::Nothing),
-        Line::Commit(a, y, n) => {
-            about_load(false, Sum::Named(n), Leaves::Waits(Command::Load(a, y)))
-        }
+        Line::Change(k, n) => other_command(false, Some(Command::Set(k, n))),
+        Line::LoadZero => other_command(true, None),
+        Line::LoadAt(_) => other_command(true, None),
+        Line::Ask => about_load(true, None, None),
+        Line::Commit(a, y, n) => about_load(false, Some(n), Some(Command::Load(a, y))),
     }
 }
 
 // Whether the sum is the one that a line names, where it names one.
-pub fn sum_agrees(named: Sum, sum: u32) -> bool
+pub fn sum_agrees(named: Option<u32>, sum: u32) -> bool
     ensures { result ≡ sum_agrees named sum }
 {
     match named {
-        Sum::Any => true,
-        Sum::Named(n) => n == sum,
+        None => true,
+        Some(n) => n == sum,
     }
 }

@@ -1,14 +1,16 @@
 // One case: a kind byte, and its body.
 ghost use Rattle.std.specs.Prelude.{◌≡◌, true, ◌≤◌, length};
-ghost use Rattle.load.specs.Staging.{formed, placeable};
+ghost use Rattle.load.specs.Staging.{fits};
 ghost use Rattle.tables.specs.Tables.{table_bytes};
 
 use crate::output;
+use causes::call_number;
 use command::line::MAX_LINE;
 use command::ranges::Ranges;
-use load::staging;
+use load::package::{Package, judge};
 use load::staging::Addresses;
-use wire::read::{u16_at, u24_at, u32_at};
+use wire::number::BigEndian;
+use wire::read::u24_at;
 
 const TABLE_BYTES: usize = 62985;
 
@@ -49,7 +51,7 @@ fn accepted_case(body: &[u8]) {
         return;
     }
     let mut buffer = [255u8; 128];
-    echo::write_accepted(&mut buffer, u16_at(body, 0), body[2], line);
+    echo::write_accepted(&mut buffer, u16::read(body, 0), body[2], line);
     show(&buffer);
 }
 
@@ -76,7 +78,7 @@ fn right_case(body: &[u8]) {
         return;
     }
     let mut buffer = [255u8; 128];
-    echo::write_package_ok(&mut buffer, u32_at(body, 0), u32_at(body, 4));
+    echo::write_package_ok(&mut buffer, u32::read(body, 0), u32::read(body, 4));
     show(&buffer);
 }
 
@@ -88,22 +90,20 @@ fn sum_case(body: &[u8]) {
     let mut buffer = [255u8; 128];
     echo::write_package_error(
         &mut buffer,
-        u32_at(body, 0),
-        u32_at(body, 4),
-        u16_at(body, 8),
-        u16_at(body, 10),
+        u32::read(body, 0),
+        u32::read(body, 4),
+        u16::read(body, 8),
+        u16::read(body, 10),
     );
     show(&buffer);
 }
 
 // Bytes that differ from place to place.
 fn fill(part: &mut [u8], step: u32) {
-    let mut i: usize = 0;
     let mut v: u32 = 7;
-    while i < part.len() {
+    for byte in part.iter_mut() {
         v = next_value(v, step);
-        part[i] = v as u8;
-        i += 1;
+        *byte = v as u8;
     }
 }
 
@@ -127,36 +127,34 @@ fn package_case(body: &[u8]) {
     package(&body[6..], a);
 }
 
-fn package(p: &[u8], a: Addresses) {
-    let n = staging::judge(p, a.next);
-    output::labelled(b"package ", n as u32);
-    if n == causes::PACKAGE_FORM {
+fn package(bytes: &[u8], a: Addresses) {
+    let judged = judge(bytes, a.next);
+    output::labelled(b"package ", u32::from(call_number(&judged)));
+    let Ok(sent) = Package::parse(bytes) else {
         return;
+    };
+    if sent.fits(a.next) {
+        show_package(&sent);
+        place(&sent, a);
     }
-    if n == causes::PAST_STAGING {
-        return;
-    }
-    show_package(p);
-    place(p, a);
 }
 
-fn place(p: &[u8], a: Addresses)
-    requires { placeable p.now a.next ≡ true }
+fn place(sent: &Package, a: Addresses)
+    requires { fits sent.now.bytes.now a.next ≡ true }
 {
     let mut area = [0u8; TABLE_BYTES];
     fill(&mut area, 5);
-    let after = staging::place(&mut area, a, p);
+    let mut after = a;
+    after.place(&mut area, sent);
     output::labelled(b" next ", after.next);
     output::labelled(b" reach ", after.reach);
     output::labelled(b" staging ", output::digest(&area));
 }
 
-fn show_package(p: &[u8])
-    requires { formed p.now ≡ true }
-{
-    output::labelled(b" placed ", staging::payload_bytes(p));
-    output::labelled(b" sums ", staging::received_sum(p) as u32);
-    output::labelled(b" ", staging::computed_sum(p) as u32);
+fn show_package(sent: &Package) {
+    output::labelled(b" placed ", sent.payload_bytes());
+    output::labelled(b" sums ", u32::from(sent.received_sum()));
+    output::labelled(b" ", u32::from(sent.computed_sum()));
 }
 
 // 8: the address in three bytes, how to pack, and the reach in three bytes. Prints whether the load is lawful, and

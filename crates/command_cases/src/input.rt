@@ -12,17 +12,11 @@ const MOST: usize = 1024;
 fn digit(b: u8) -> u8
     ensures { result < 16 }
 {
-    if b'0' <= b {
-        if b <= b'9' {
-            return b - b'0';
-        }
+    match b {
+        b'0'..=b'9' => b - b'0',
+        b'a'..=b'f' => b - b'a' + 10,
+        _ => 0,
     }
-    if b'a' <= b {
-        if b <= b'f' {
-            return b - b'a' + 10;
-        }
-    }
-    0
 }
 
 // The byte of the two digits at 2n.
@@ -36,13 +30,9 @@ fn byte_at(line: &[u8], n: usize) -> u8
 fn decode(line: &[u8], out: &mut [u8]) -> usize
     ensures { result ≤ length out.new }
 {
-    let mut n: usize = 0;
-    while n < out.len() {
-        if line.len() < 2 * n + 2 {
-            return n;
-        }
-        out[n] = byte_at(line, n);
-        n += 1;
+    let n = out.len().min(line.len() / 2);
+    for (i, byte) in out[..n].iter_mut().enumerate() {
+        *byte = byte_at(line, i);
     }
     n
 }
@@ -53,27 +43,12 @@ fn run_line(line: &[u8]) {
     case(&body[..n]);
 }
 
-// How many bytes stand before the first line end, from `at` on.
-fn line_end(text: &[u8], at: usize) -> usize
-    requires { at ≤ length text.now }
-    ensures { (at ≤ result) × (result ≤ length text.now) }
-{
-    let mut i = at;
-    while i < text.len() {
-        if text[i] == LF {
-            return i;
-        }
-        i += 1;
-    }
-    i
-}
-
 // Each line, in order.
 pub fn run(text: &[u8]) {
-    let mut at: usize = 0;
-    while at < text.len() {
-        let end = line_end(text, at);
-        run_line(&text[at..end]);
-        at = end + 1;
+    let mut rest = text;
+    while !rest.is_empty() {
+        let end = rest.iter().position(|b| *b == LF).unwrap_or(rest.len());
+        run_line(&rest[..end]);
+        rest = rest.get(end + 1..).unwrap_or(&[]);
     }
 }

@@ -23,10 +23,8 @@ pub fn word(w: u32) {
 
 // Each byte in two digits.
 pub fn bytes(part: &[u8]) {
-    let mut i: usize = 0;
-    while i < part.len() {
-        byte(part[i]);
-        i += 1;
+    for b in part {
+        byte(*b);
     }
 }
 
@@ -71,10 +69,8 @@ pub fn digest(part: &[u8]) -> u32
     ensures { result < 65521 }
 {
     let mut h: u32 = 0;
-    let mut i: usize = 0;
-    while i < part.len() {
-        h = mixed(h, part[i]);
-        i += 1;
+    for b in part {
+        h = mixed(h, *b);
     }
     h
 }

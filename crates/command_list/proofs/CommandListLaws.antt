@@ -1,6 +1,8 @@
 -- The limits of the command list as facts, and what keeps them: a command that joins, one that is only counted, another reach. Assumes nothing.
 use mathlib.Core.Path.{◌≡◌, refl, sym, ap, ◌∙◌}
-use mathlib.Core.Bool.{Bool, true, false, ◌&&◌, not, false≢true}
+use mathlib.Core.Bool.{Bool, true, false, ◌&&◌, not, cond, false≢true}
+use Rattle.std.specs.List.{count_by}
+use Rattle.std.proofs.lemmas.List.Recursion.{is_count_by}
 use mathlib.Core.List.{List, [], ◌∷◌, ◌++◌, append-nil}
 use Prim.Native.Nat.{ℕ, ◌+◌, ◌-◌, ◌≤◌, ◌<◌}
 use native.Mathlib.Omega.{arith}
@@ -17,8 +19,7 @@ use Rattle.command.specs.declared.command.Command.TheVariants.{Set, Load}
 use Rattle.command.specs.declared.command.Setting.{Setting}
 use Rattle.command.specs.declared.command.Setting.TheVariants.{Limhi, Eonly, Toferror, Junk, Hv, Hvstep}
 use Rattle.command.specs.declared.ranges.Ranges.{Ranges}
-use Rattle.command.specs.declared.traits.Leaves.{Leaves}
-use Rattle.command.specs.declared.traits.Leaves.TheVariants.{Nothing, Waits}
+use Rattle.std.specs.Prelude.{Option, Some, None}
 use Rattle.command.specs.Asked.{is_load}
 use Rattle.command.specs.Grammar.{most_of, command_ok}
 use Rattle.command_list.specs.declared.CommandList.{CommandList}
@@ -31,6 +32,17 @@ use Rattle.command_list.specs.CommandList.{command_list_within, pushed, counted,
 pub loads_snoc : (ws : List Waiting) (w : Waiting) → loads_in (ws ++ w ∷ []) ≡ loads_in ws + length (join_if (is_load w.command) w [])
 unfolding loads_in
 loads_snoc ws w = rw (keep_append, keep_one, length-append)
+
+-- the library counts them alike
+join_count : {A : Type 0} (b : Bool) (x : A) (l : List A) → length (join_if b x l) ≡ cond b (1 + length l) (length l)
+join_count true x l = omega arith
+join_count false x l = refl
+
+pub loads_is : (ws : List Waiting) → count_by (λ w. is_load w.command) ws ≡ loads_in ws
+unfolding loads_in keep
+loads_is ws =
+    let p : Waiting → Bool = λ w. is_load w.command in
+    sym (is_count_by (λ l. length (keep p l)) p refl (λ x xs. join_count (p x) x (keep p xs)) ws)
 
 -- a command that joins makes no second load
 pub loads_one : (n : ℕ) (b : Bool) (w : Waiting) → n ≤ 1 → not (b && leb 1 n) ≡ true → n + length (join_if b w []) ≤ 1
@@ -151,7 +163,7 @@ pushed_with accepted ws c h i = record {
 }
 
 -- one more accepted, with what its line leaves waiting behind the others
-pub accepted_with : (accepted : ℕ) (ws : List Waiting) (x : Leaves) → length ws < most_commands
+pub accepted_with : (accepted : ℕ) (ws : List Waiting) (x : Option Command) → length ws < most_commands
     → with_accepted (command_list_with accepted ws) x ≡ command_list_with (accepted + 1) (ws ++ left_waiting x)
-accepted_with accepted ws Nothing h = ap (command_list_with (accepted + 1)) (sym (append-nil ws))
-accepted_with accepted ws (Waits c) h = pushed_with accepted ws c h
+accepted_with accepted ws None h = ap (command_list_with (accepted + 1)) (sym (append-nil ws))
+accepted_with accepted ws (Some c) h = pushed_with accepted ws c h

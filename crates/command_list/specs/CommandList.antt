@@ -7,8 +7,7 @@ use Rattle.command.specs.declared.command.Command.{Command}
 use Rattle.command.specs.declared.command.Command.TheVariants.{Set}
 use Rattle.command.specs.declared.command.Setting.TheVariants.{Limhi}
 use Rattle.command.specs.declared.ranges.Ranges.{Ranges}
-use Rattle.command.specs.declared.traits.Leaves.{Leaves}
-use Rattle.command.specs.declared.traits.Leaves.TheVariants.{Nothing, Waits}
+use Rattle.std.specs.Prelude.{Option, Some, None}
 use Rattle.command.specs.Asked.{is_load}
 use Rattle.command.specs.Grammar.{command_ok}
 use Rattle.command_list.specs.declared.CommandList.{CommandList}
@@ -72,11 +71,11 @@ abbrev pub counted : CommandList → CommandList
 counted o = record { accepted = o.accepted + 1; waiting = o.waiting; waiters = o.waiters }
 
 -- one more accepted, by what its line leaves waiting
-abbrev pub with_accepted : CommandList → Leaves → CommandList
-with_accepted o Nothing = counted o
-with_accepted o (Waits c) = pushed o c
+abbrev pub with_accepted : CommandList → Option Command → CommandList
+with_accepted o None = counted o
+with_accepted o (Some c) = pushed o c
 
 -- what a line leaves waiting, as a list
-abbrev pub left_waiting : Leaves → List Waiting
-left_waiting Nothing = []
-left_waiting (Waits c) = record { command = c } ∷ []
+abbrev pub left_waiting : Option Command → List Waiting
+left_waiting None = []
+left_waiting (Some c) = record { command = c } ∷ []

@@ -2,19 +2,19 @@
 // and staging addresses.
 #![tactic(auto)]
 
-ghost use Rattle.std.specs.Prelude.{◌≡◌, true, ◌≤◌, ◌<◌, length, take};
-ghost use Rattle.wire.specs.Lists.{all};
+ghost use Rattle.std.specs.Prelude.{◌≡◌, true, ◌≤◌, ◌<◌, length, count_by};
+ghost use Rattle.std.specs.List.{list_all};
 ghost use Rattle.tables.specs.Tables.{table_bytes};
 ghost use Rattle.load.specs.Staging.{staging_bytes};
+ghost use Rattle.command.specs.Asked.{is_load};
 ghost use Rattle.command.specs.Change.{tables_after};
 ghost use Rattle.command.specs.Grammar.{command_ok};
-ghost use Rattle.command_list.specs.CommandList.{most_commands, fresh_command_list, waiting_of, loads_in, given_at};
-ghost use Rattle.command_list.specs.CommandList.{load_waits, commands_full, command_list_within, pushed, counted, with_accepted};
+ghost use Rattle.command_list.specs.CommandList.{most_commands, fresh_command_list, waiting_of, given_at};
+ghost use Rattle.command_list.specs.CommandList.{load_waits, commands_full, command_list_within, with_accepted};
 ghost use Rattle.command_list.specs.Run.{settings_after_all, tables_after_all, addresses_after_all};
 
 use command::command::{Command, Setting};
 use command::ranges::Ranges;
-use command::traits::Leaves;
 use load::staging::Addresses;
 use settings::Settings;
 
@@ -26,6 +26,8 @@ pub struct Waiting {
     pub command: Command,
 }
 
+// The state's image holds every entry and any `waiters`, so the length stands beside the array, and a list that is handed in may name
+// more than there are.
 #[derive(Clone, Copy)]
 pub struct CommandList {
     // Commands accepted in this frame.
@@ -35,163 +37,124 @@ pub struct CommandList {
     pub waiters: usize,
 }
 
-// None accepted, and none waiting.
-pub fn fresh() -> CommandList
-    ensures { result ≡ fresh_command_list }
-{
-    let filler = Waiting {
-        command: Command::Set(Setting::Limhi, 0),
-    };
-    CommandList {
-        accepted: 0,
-        waiting: [filler; 32],
-        waiters: 0,
-    }
-}
-
-// Whether there were 32 commands in this frame.
-pub fn full(o: CommandList) -> bool
-    ensures { result ≡ commands_full o }
-{
-    MOST_COMMANDS <= o.accepted
-}
-
-// The command joins those that wait.
-fn push(o: CommandList, c: Command) -> CommandList
-    requires { (o.waiters < most_commands) × (o.accepted < most_commands) }
-    ensures { result ≡ pushed o c }
-{
-    let at = o.waiters;
-    let mut t = o;
-    t.waiting[at] = Waiting { command: c };
-    t.waiters = at + 1;
-    t.accepted = t.accepted + 1;
-    t
-}
-
-// One more accepted, which does not wait.
-fn count(o: CommandList) -> CommandList
-    requires { o.accepted < most_commands }
-    ensures { result ≡ counted o }
-{
-    let mut t = o;
-    t.accepted = o.accepted + 1;
-    t
-}
-
-// One more accepted, which waits where its line left a command waiting.
-pub fn accept(o: CommandList, leaves: Leaves) -> CommandList
-    requires { (o.waiters < most_commands) × (o.accepted < most_commands) }
-    ensures { result ≡ with_accepted o leaves }
-{
-    match leaves {
-        Leaves::Nothing => count(o),
-        Leaves::Waits(c) => push(o, c),
-    }
-}
-
-// How many entries wait. A list over its limits may name more than there are; then it is all of them.
-fn in_use(o: CommandList) -> usize
-    ensures { (result ≤ most_commands) × (length (take result o.waiting) ≡ result) × (take result o.waiting ≡ waiting_of o) }
-{
-    if o.waiters <= MOST_COMMANDS {
-        return o.waiters;
-    }
-    MOST_COMMANDS
-}
-
-// How many loads wait.
-fn loads(o: CommandList) -> usize
-    ensures { result ≡ loads_in (waiting_of o) }
-{
-    let n = in_use(o);
-    let waiting = o.waiting;
-    let mut count: usize = 0;
-    let mut i: usize = 0;
-    while i < n {
-        let x = waiting[i];
-        let c = x.command;
-        if command::command::is_load(c) {
-            count += 1;
+impl CommandList {
+    // None accepted, and none waiting.
+    pub fn fresh() -> CommandList
+        ensures { result ≡ fresh_command_list }
+    {
+        let filler = Waiting {
+            command: Command::Set(Setting::Limhi, 0),
+        };
+        CommandList {
+            accepted: 0,
+            waiting: [filler; 32],
+            waiters: 0,
         }
-        i += 1;
     }
-    count
-}
 
-// Whether a load waits.
-pub fn load_waits(o: CommandList) -> bool
-    ensures { result ≡ load_waits o }
-{
-    1 <= loads(o)
-}
-
-// Whether each waiting command is one that some line could give in these ranges.
-fn given(o: CommandList, ranges: Ranges) -> bool
-    ensures { result ≡ all (given_at ranges) (waiting_of o) }
-{
-    let n = in_use(o);
-    let waiting = o.waiting;
-    let mut ok = true;
-    let mut i: usize = 0;
-    while i < n {
-        let x = waiting[i];
-        let c = x.command;
-        ok = ok & command::command::command_ok(c, ranges);
-        i += 1;
+    // Whether there were 32 commands in this frame.
+    pub fn full(&self) -> bool
+        ensures { result ≡ commands_full self.now }
+    {
+        MOST_COMMANDS <= self.accepted
     }
-    ok
-}
 
-// Whether the command list is within its limits where some may wait.
-fn waiting_within(o: CommandList, ranges: Ranges) -> bool
-    ensures { result ≡ command_list_within o ranges }
-{
-    if MOST_COMMANDS < o.accepted {
-        return false;
+    // One more accepted, which waits where its line left a command waiting.
+    pub fn accept(&mut self, leaves: Option<Command>)
+        requires { (self.old.waiters < most_commands) × (self.old.accepted < most_commands) }
+        ensures { self.new ≡ with_accepted self.old leaves }
+    {
+        if let Some(command) = leaves {
+            self.waiting[self.waiters] = Waiting { command };
+            self.waiters += 1;
+        }
+        self.accepted += 1;
     }
-    if o.accepted < o.waiters {
-        return false;
-    }
-    given(o, ranges) & (loads(o) <= 1)
-}
 
-// Whether the command list is within its limits. Small, so that it is compiled into its callers: where none waits, as at
-// nearly every call, the list is neither read nor copied.
-pub fn within(o: CommandList, ranges: Ranges) -> bool
-    ensures { result ≡ command_list_within o ranges }
-{
-    if (o.accepted <= MOST_COMMANDS) & (o.waiters == 0) {
-        return true;
+    // Those that wait. A list over its limits may name more than there are; then it is all of them.
+    fn in_use(&self) -> &[Waiting]
+        ensures { (result.now ≡ waiting_of self.now) × (length result.now ≤ most_commands) }
+    {
+        &self.waiting[..self.waiters.min(MOST_COMMANDS)]
     }
-    waiting_within(o, ranges)
-}
 
-// The settings after the waiting commands.
-pub fn run_settings(settings: Settings, o: CommandList) -> Settings
-    ensures { result ≡ settings_after_all settings (waiting_of o) }
-{
-    let n = in_use(o);
-    let waiting = o.waiting;
-    let mut t = settings;
-    let mut i: usize = 0;
-    while i < n {
-        let x = waiting[i];
-        let c = x.command;
-        t = settings_change::applied_to_copy(t, c);
-        i += 1;
+    // How many loads wait.
+    fn loads(&self) -> usize
+        ensures { result ≡ count_by (λ w. is_load w.command) (waiting_of self.now) }
+    {
+        self.in_use().iter().filter(|w| w.command.is_load()).count()
     }
-    t
-}
 
-// The staging addresses after the waiting commands: both 0 once a load has run.
-pub fn run_addresses(a: Addresses, o: CommandList) -> Addresses
-    ensures { result ≡ addresses_after_all a (waiting_of o) }
-{
-    if load_waits(o) {
-        load::staging::fresh_addresses()
-    } else {
-        a
+    // Whether a load waits.
+    #[tactic(auto, using(crate::proofs::CommandListLaws::loads_is))]
+    pub fn load_waits(&self) -> bool
+        ensures { result ≡ load_waits self.now }
+    {
+        1 <= self.loads()
+    }
+
+    // Whether each waiting command is one that some line could give in these ranges.
+    fn given(&self, ranges: Ranges) -> bool
+        ensures { result ≡ list_all (given_at ranges) (waiting_of self.now) }
+    {
+        self.in_use().iter().all(|w| w.command.ok(ranges))
+    }
+
+    // Whether the command list is within its limits where some may wait.
+    #[tactic(auto, using(crate::proofs::CommandListLaws::loads_is, command::proofs::WordLaws::all_is), unfolding(crate::specs::CommandList::command_list_within))]
+    fn waiting_within(&self, ranges: Ranges) -> bool
+        ensures { result ≡ command_list_within self.now ranges }
+    {
+        (self.accepted <= MOST_COMMANDS)
+            && (self.waiters <= self.accepted)
+            && self.given(ranges)
+            && (self.loads() <= 1)
+    }
+
+    // Whether the command list is within its limits. Small, so that it is compiled into its callers: where none waits, as at
+    // nearly every call, the list is not read.
+    pub fn within(&self, ranges: Ranges) -> bool
+        ensures { result ≡ command_list_within self.now ranges }
+    {
+        if (self.accepted <= MOST_COMMANDS) & (self.waiters == 0) {
+            return true;
+        }
+        self.waiting_within(ranges)
+    }
+
+    // The settings after the waiting commands.
+    pub fn run_settings(&self, settings: Settings) -> Settings
+        ensures { result ≡ settings_after_all settings (waiting_of self.now) }
+    {
+        let waiting = self.in_use();
+        let mut t = settings;
+        for w in waiting {
+            t = settings_change::applied_to_copy(t, w.command);
+        }
+        t
+    }
+
+    // The staging addresses after the waiting commands: both 0 once a load has run.
+    pub fn run_addresses(&self, addresses: Addresses) -> Addresses
+        ensures { result ≡ addresses_after_all addresses (waiting_of self.now) }
+    {
+        if self.load_waits() {
+            Addresses::fresh()
+        } else {
+            addresses
+        }
+    }
+
+    // The tables after the waiting commands.
+    pub fn run_loads(&self, tables: &mut [u8], staging: &[u8], ranges: Ranges)
+        requires tables_len { (length tables.old ≡ table_bytes) × (length staging.now ≡ staging_bytes) }
+        requires ranges_value { command_list_within self.now ranges ≡ true }
+        ensures { tables.new ≡ tables_after_all tables.old staging.now ranges.reach (waiting_of self.now) }
+    {
+        let waiting = self.in_use();
+        for w in waiting {
+            run_command(tables, staging, ranges, w.command);
+        }
     }
 }
 
@@ -201,27 +164,7 @@ fn run_command(tables: &mut [u8], staging: &[u8], ranges: Ranges, c: Command)
     requires ranges_value { command_ok c ranges ≡ true }
     ensures { tables.new ≡ tables_after tables.old staging.now ranges.reach c }
 {
-    match c {
-        Command::Set(_, _) => {}
-        Command::Load(a, y) => {
-            load::run::run_load(tables, staging, a, y, ranges.reach);
-        }
-    }
-}
-
-// The tables after the waiting commands.
-pub fn run_loads(tables: &mut [u8], staging: &[u8], ranges: Ranges, o: CommandList)
-    requires tables_len { (length tables.old ≡ table_bytes) × (length staging.now ≡ staging_bytes) }
-    requires ranges_value { command_list_within o ranges ≡ true }
-    ensures { tables.new ≡ tables_after_all tables.old staging.now ranges.reach (waiting_of o) }
-{
-    let n = in_use(o);
-    let waiting = o.waiting;
-    let mut i: usize = 0;
-    while i < n {
-        let x = waiting[i];
-        let c = x.command;
-        run_command(tables, staging, ranges, c);
-        i += 1;
+    if let Command::Load(a, y) = c {
+        load::run::run_load(tables, staging, a, y, ranges.reach);
     }
 }

@@ -4,9 +4,9 @@ ghost use Rattle.packet.specs.Layout.{packet_bytes};
 ghost use Rattle.convert.specs.Block.{written, counted, written_all, counted_all};
 
 use crate::counts::{Counts, counted};
-use converter::convert;
+use causes::call_number;
+use converter::{Conversion, convert};
 use packet::layout::PACKET_BYTES;
-use wire::write::put_bytes;
 
 // Converts the packet, which stands in `out` already, or leaves it there as it is; and counts it.
 fn write_packet(wanted: u8, packet: &[u8], out: &mut [u8], counts: Counts) -> Counts
@@ -14,8 +14,8 @@ fn write_packet(wanted: u8, packet: &[u8], out: &mut [u8], counts: Counts) -> Co
     ensures out { out.new ≡ written wanted packet.now }
     ensures counts { result ≡ counted wanted counts packet.now }
 {
-    let conversion = convert(wanted, packet, out);
-    counted(counts, conversion.read, conversion.number)
+    let Conversion { read, conversion } = convert(wanted, packet, out);
+    counted(counts, call_number(&read), call_number(&conversion))
 }
 
 // Writes n packets, and counts them.
@@ -24,14 +24,12 @@ fn write_packets(wanted: u8, block: &[u8], n: usize, out: &mut [u8], counts: Cou
     ensures out { out.new ≡ written_all wanted n block.now }
     ensures counts { result ≡ counted_all wanted n counts block.now }
 {
-    put_bytes(out, 0, block);
+    out.copy_from_slice(block);
     let mut after = counts;
-    let mut i: usize = 0;
-    while i < n {
+    for i in 0..n {
         let from = PACKET_BYTES * i;
         let to = from + PACKET_BYTES;
         after = write_packet(wanted, &block[from..to], &mut out[from..to], after);
-        i += 1;
     }
     after
 }

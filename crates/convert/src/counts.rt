@@ -2,7 +2,9 @@
 ghost use Rattle.std.specs.Prelude.{◌≡◌};
 ghost use Rattle.convert.specs.Block.{none_counted, more, counted_by};
 
-#[derive(Clone, Copy)]
+use causes::{CARRIED_OUT, Cause};
+
+#[derive(Clone, Copy, Default)]
 pub struct Counts {
     pub converted: u64,
     // Taken by the reader, and not to be converted: sample packets, and those already in the edition wanted.
@@ -18,34 +20,31 @@ pub struct Counts {
 pub fn none() -> Counts
     ensures { result ≡ none_counted }
 {
-    Counts {
-        converted: 0,
-        passed: 0,
-        headers: 0,
-        sums: 0,
-        bodies: 0,
-        codes: 0,
-    }
+    Counts::default()
 }
 
 // One more where the test passes. No run reaches the largest number.
 fn more(n: u64, passes: bool) -> u64
     ensures { result ≡ more n passes }
 {
-    if passes & (n < u64::MAX) { n + 1 } else { n }
+    n.saturating_add(u64::from(passes))
 }
 
 // One packet more, by the numbers of the reader and of its conversion.
+#[tactic(auto, unfolding(crate::specs::Block::counted_by))]
 pub fn counted(counts: Counts, read: u8, number: u8) -> Counts
     ensures { result ≡ counted_by counts read number }
 {
-    let accepted = read == causes::CARRIED_OUT;
+    let accepted = read == CARRIED_OUT;
     Counts {
-        converted: more(counts.converted, number == causes::CARRIED_OUT),
-        passed: more(counts.passed, accepted & (number == causes::BODY_FAULT)),
-        headers: more(counts.headers, read == causes::NO_HEADER),
-        sums: more(counts.sums, read == causes::PACKET_SUM),
-        bodies: more(counts.bodies, read == causes::BODY_FAULT),
-        codes: more(counts.codes, number == causes::NO_FIRST_CODE),
+        converted: more(counts.converted, number == CARRIED_OUT),
+        passed: more(
+            counts.passed,
+            accepted & (number == Cause::BodyFault.number()),
+        ),
+        headers: more(counts.headers, read == Cause::NoHeader.number()),
+        sums: more(counts.sums, read == Cause::PacketSum.number()),
+        bodies: more(counts.bodies, read == Cause::BodyFault.number()),
+        codes: more(counts.codes, number == Cause::NoFirstCode.number()),
     }
 }

@@ -10,11 +10,9 @@ mod report;
 
 use buffered::input::read_full;
 use buffered::text::print;
-use buffered::turns::{MOST_TURNS, left};
 use packet::layout::PACKET_BYTES;
 use rate_code::editions::{CONVERTED_MARK, FIRST_MARK};
 use std::env::{Env, FillError};
-use wire::words::same;
 
 // So many packets are read and written at a time.
 const BLOCK_PACKETS: usize = 480;
@@ -31,19 +29,19 @@ fn is_alone(rt: &HostRuntime) -> bool {
 fn asked_for(rt: &HostRuntime, word: &[u8]) -> bool {
     let mut argument = [0u8; 8];
     match rt.arg(1, &mut argument) {
-        Ok(n) => is_alone(rt) & same(&argument[..n], word),
+        Ok(n) => is_alone(rt) & (&argument[..n] == word),
         Err(_) => false,
     }
 }
 
-// Converts block after block until the input ends, or a read or a write fails.
+// Converts block after block until the input ends, or a read or a write fails. Nothing says that the input ends, so the
+// turns are counted, up to a number that no run uses up.
 fn run(rt: &HostRuntime, wanted: u8, block: &mut [u8], out: &mut [u8])
     requires { length block.old ≡ length out.old }
 {
     let mut counts = counts::none();
-    let mut turns = MOST_TURNS;
-    let mut rest: usize = 0;
-    while 0 < turns {
+    let mut rest = 0;
+    for _ in 0..u64::MAX {
         let filled = read_full(rt, &mut rt.stdin(), block, b"cannot read standard input");
         let n = filled.bytes;
         counts = block::write_block(wanted, &block[..n], &mut out[..n], counts);
@@ -51,7 +49,9 @@ fn run(rt: &HostRuntime, wanted: u8, block: &mut [u8], out: &mut [u8])
             return;
         }
         rest = n % PACKET_BYTES;
-        turns = left(turns, (n == block.len()) & filled.failed.is_none());
+        if (n < block.len()) | filled.failed.is_some() {
+            break;
+        }
     }
     report::ends_within(rt, rest);
     report::counted(rt, counts);

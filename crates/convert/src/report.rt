@@ -1,44 +1,30 @@
 // What the program says on standard error.
 use crate::counts::Counts;
-use buffered::transfer::{write_all, write_decimal};
-
-fn say(rt: &HostRuntime, text: &[u8]) {
-    let _ = write_all(&mut rt.stderr(), text);
-}
-
-fn say_number(rt: &HostRuntime, n: u64) {
-    let _ = write_decimal(&mut rt.stderr(), n);
-}
 
 // How the program is called.
 pub fn usage(rt: &HostRuntime) {
-    say(rt, b"usage: convert second|first < packets > converted\n");
+    let _ = eprintln!(rt; "usage: convert second|first < packets > converted");
 }
 
 // That the input ended n bytes behind the last whole packet.
 pub fn ends_within(rt: &HostRuntime, n: usize) {
     if n != 0 {
-        say(rt, b"the input ends within a packet: its ");
-        say_number(rt, n as u64);
-        say(rt, b" bytes are written as they are\n");
+        let _ = eprintln!(rt;
+            "the input ends within a packet: its {n} bytes are written as they are"
+        );
     }
-}
-
-// A number of packets, and by which number they were refused.
-fn say_refused(rt: &HostRuntime, n: u64, by: &[u8]) {
-    say_number(rt, n);
-    say(rt, b" by ");
-    say(rt, by);
 }
 
 // How many packets were converted, passed on, and refused by each number.
 pub fn counted(rt: &HostRuntime, counts: Counts) {
-    say_number(rt, counts.converted);
-    say(rt, b" converted, ");
-    say_number(rt, counts.passed);
-    say(rt, b" passed on, refused: ");
-    say_refused(rt, counts.headers, b"11, ");
-    say_refused(rt, counts.sums, b"12, ");
-    say_refused(rt, counts.bodies, b"13, ");
-    say_refused(rt, counts.codes, b"17\n");
+    let Counts {
+        converted,
+        passed,
+        headers,
+        sums,
+        bodies,
+        codes,
+    } = counts;
+    let _ = eprint!(rt; "{converted} converted, {passed} passed on, ");
+    let _ = eprintln!(rt; "refused: {headers} by 11, {sums} by 12, {bodies} by 13, {codes} by 17");
 }

@@ -1,4 +1,5 @@
 -- The number of a conversion, and what the two calls do one after the other. Assumes nothing.
+use Rattle.std.specs.Prelude.{Option, Some, None}
 use mathlib.Core.Path.{◌≡◌, refl, sym, ap, ◌∙◌}
 use mathlib.Core.Bool.{Bool, true, false, not, cond, false≢true}
 use mathlib.Core.List.{List, [], ◌∷◌, ◌++◌}
@@ -6,7 +7,7 @@ use Prim.Native.Nat.{ℕ, ◌+◌, ◌*◌, ◌≤◌}
 use native.Mathlib.Omega.{arith}
 use lib.Dec.{eqb}
 use lib.ListN.{length, take, set}
-use borrow.Author.Tests.{eq-eqb, ne_eqb, eqb-true, not-true}
+use borrow.Author.Tests.{eqb-false, eq-eqb, ne_eqb, eqb-true, not-true}
 use Rattle.causes.specs.Causes.{carried_out, buffer_or_state, body_fault, no_first_code}
 use Rattle.causes.specs.Checks.{Check, number_by, Passed}
 use Rattle.causes.proofs.CheckLaws.{all_passed, passed_first, number_before, number_behind}
@@ -18,7 +19,7 @@ use Rattle.rate_code.proofs.EditionLaws.{own_exact, second_exact}
 use Rattle.packet.specs.Layout.{packet_bytes, body_at, frame_at, mark_at, sum_at, code_bytes}
 use Rattle.packet.specs.Packet.{summed}
 use Rattle.decode.specs.declared.kind.Kind.{Kind}
-use Rattle.decode.specs.declared.kind.Kind.TheVariants.{Rate, Sample, Beacon, None}
+use Rattle.decode.specs.declared.kind.Kind.TheVariants.{Rate, Sample, Beacon}
 use Rattle.decode.specs.Read.{application_of, kind_of, mark_of, code_at, codes_good, body_good, read_checks, read_number}
 use Rattle.decode.proofs.Reading.{passed, accepted_is, accepted_length, accepted_body, accepted_rate, accepted_beacon}
 use Rattle.decode.proofs.Reading.{rate_accepted, beacon_accepted, rate_codes, beacon_codes}
@@ -31,11 +32,11 @@ use Rattle.converter.proofs.Reread.{application_same, header_same, rate_good_lem
 
 -- ---- the rates of an accepted packet
 
-good_by : (xs : List ℕ) (k : Kind) → body_good k xs ≡ true → codes_good (rates_in k) xs ≡ true
+good_by : (xs : List ℕ) (k : Option Kind) → body_good k xs ≡ true → codes_good (rates_in k) xs ≡ true
 unfolding codes_good
-good_by xs Rate h = rate_codes xs (accepted_rate xs h)
-good_by xs Sample h = sym (each_start _)
-good_by xs Beacon h = beacon_codes xs (accepted_beacon xs h)
+good_by xs (Some Rate) h = rate_codes xs (accepted_rate xs h)
+good_by xs (Some Sample) h = sym (each_start _)
+good_by xs (Some Beacon) h = beacon_codes xs (accepted_beacon xs h)
 good_by xs None h = sym (each_start _)
 
 -- have good codes
@@ -47,6 +48,17 @@ rates_good xs e = good_by xs (kind_of (application_of xs)) (accepted_body xs (ki
 module _ (wanted n : ℕ) (xs : List ℕ) where
   abbrev behind : List Check
   behind = (convertible wanted xs, body_fault) ∷ (rates_exact wanted (rate_count_of xs) xs, no_first_code) ∷ []
+
+  -- what the reader takes is judged further behind the length of `out`, and what it refuses is refused
+  pub number_taken : read_number xs ≡ 0 → convert_number wanted n xs ≡ cond (eqb n packet_bytes) (number_by behind) buffer_or_state
+  unfolding convert_number read_number
+  number_taken h =
+      ap (λ (m : ℕ). cond (eqb n packet_bytes) m buffer_or_state)
+      (number_behind (read_checks xs) behind (all_passed (read_checks xs) refl h))
+
+  pub number_untaken : (read_number xs ≡ 0 → ⊥) → convert_number wanted n xs ≡ cond (eqb n packet_bytes) (read_number xs) buffer_or_state
+  unfolding convert_number read_number
+  number_untaken h = ap (λ (m : ℕ). cond (eqb n packet_bytes) m buffer_or_state) (number_before (read_checks xs) behind h)
 
   module _ (l : n ≡ packet_bytes) where
     -- what the reader refuses has its number
@@ -137,7 +149,7 @@ module _ (wanted : ℕ) (xs : List ℕ) (h : wanted ≤ converted_mark) (acc : r
   lx = accepted_length xs acc
 
   -- whose body has no fault and whose contents are the same is accepted, and read as before
-  reread_as : (k : Kind) → kind_of (application_of xs) ≡ k → let ys = recoded wanted (rates_in k) xs in
+  reread_as : (k : Option Kind) → kind_of (application_of xs) ≡ k → let ys = recoded wanted (rates_in k) xs in
       body_good k ys ≡ true → contents k ys ≡ with_mark wanted (contents k xs)
       → (read_number ys ≡ 0) × (read_of ys ≡ with_mark wanted (read_of xs))
   reread_as k q g same =
@@ -147,19 +159,19 @@ module _ (wanted : ℕ) (xs : List ℕ) (h : wanted ≤ converted_mark) (acc : r
       let kind : kind_of (application_of ys) ≡ k = ap kind_of (application_same wanted n xs lx fits) ∙ q in
       let z : read_number ys ≡ 0 =
       accepted_is ys (header_same wanted n xs lx fits ∙ (passed xs acc).0) (sum_recoded wanted n xs lx fits)
-      (ap (λ (t : Kind). body_good t ys) kind ∙ g) in
+      (ap (λ (t : Option Kind). body_good t ys) kind ∙ g) in
       (z, read_accepted ys k z kind ∙ same ∙ ap (with_mark wanted) (sym (read_accepted xs k acc q)))
 
   -- so of both kinds that have rates
-  reread : (k : Kind) → kind_of (application_of xs) ≡ k → eqb (rates_in k) 0 ≡ false → rates_exact wanted (rates_in k) xs ≡ true
+  reread : (k : Option Kind) → kind_of (application_of xs) ≡ k → eqb (rates_in k) 0 ≡ false → rates_exact wanted (rates_in k) xs ≡ true
       → let ys = recoded wanted (rates_in k) xs in (read_number ys ≡ 0) × (read_of ys ≡ with_mark wanted (read_of xs))
-  reread Rate q ne e =
-      let g = rate_good_lem wanted xs lx h (accepted_rate xs (accepted_body xs Rate acc q)) in
-      reread_as Rate q (rate_accepted _ g) (rate_same wanted xs lx e)
-  reread Sample q ne e = absurd (false≢true (sym ne))
-  reread Beacon q ne e =
-      let g = beacon_good_lem wanted xs lx h (accepted_beacon xs (accepted_body xs Beacon acc q)) in
-      reread_as Beacon q (beacon_accepted _ g) (beacon_same wanted xs lx e)
+  reread (Some Rate) q ne e =
+      let g = rate_good_lem wanted xs lx h (accepted_rate xs (accepted_body xs (Some Rate) acc q)) in
+      reread_as (Some Rate) q (rate_accepted _ g) (rate_same wanted xs lx e)
+  reread (Some Sample) q ne e = absurd (false≢true (sym ne))
+  reread (Some Beacon) q ne e =
+      let g = beacon_good_lem wanted xs lx h (accepted_beacon xs (accepted_body xs (Some Beacon) acc q)) in
+      reread_as (Some Beacon) q (beacon_accepted _ g) (beacon_same wanted xs lx e)
   reread None q ne e = absurd (false≢true (sym ne))
 
 -- ---- the calls
@@ -186,6 +198,13 @@ pub done_unread : (wanted : ℕ) (xs out : List ℕ) → length out ≡ packet_b
     → convert_done wanted xs out ≡ record { number = read_number xs; out = out }
 done_unread wanted xs out l h = done_refused wanted xs out (read_number xs) (number_refused wanted (length out) xs l h) h
 
+-- which leaves `out` as it was
+pub kept_unread : (wanted : ℕ) (xs out : List ℕ) → (read_number xs ≡ 0 → ⊥) → out ≡ (convert_done wanted xs out).out
+kept_unread wanted xs out h =
+    decide (eqb (length out) packet_bytes)
+    (λ t. sym (ap (λ (d : Converted). d.out) (done_unread wanted xs out (eqb-true (length out) packet_bytes t) h)))
+    (λ f. sym (ap (λ (d : Converted). d.out) (done_length wanted xs out (eqb-false (length out) packet_bytes f))))
+
 -- by 13 what the reader takes but is no packet to convert, by 17 one with a rate that has no code
 module _ (wanted : ℕ) (xs out : List ℕ) (l : length out ≡ packet_bytes) (acc : read_number xs ≡ 0) where
   pub done_fault : convertible wanted xs ≡ false → convert_done wanted xs out ≡ record { number = body_fault; out = out }
@@ -206,7 +225,7 @@ number_is wanted xs out = refl
 pub converted_read : ConvertedRead
 converted_read wanted xs out h e =
     let p = passes wanted (length out) xs (sym (number_is wanted xs out) ∙ e) in
-    let k : Kind = kind_of (application_of xs) in
+    let k : Option Kind = kind_of (application_of xs) in
     ap (λ (d : Converted). read_of d.out) (done_is wanted xs out p)
     ∙ (reread wanted xs h p.accepted k refl (has_rates wanted xs p.right) p.exact).1
 

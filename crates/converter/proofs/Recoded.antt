@@ -1,4 +1,5 @@
 -- Which bytes a packet has after converting, and that twice gives the packet with its mark changed. Assumes nothing.
+use Rattle.std.specs.Prelude.{Option, Some, None}
 use mathlib.Core.Path.{◌≡◌, refl, sym, ap, ◌∙◌}
 use mathlib.Core.Logic.{◌⊎◌, inl, inr}
 use mathlib.Core.Bool.{true}
@@ -21,7 +22,7 @@ use Rattle.packet.specs.Layout.{packet_bytes, body_at, frame_at, mark_at, sum_at
 use Rattle.packet.specs.Packet.{summed, codes}
 use Rattle.packet.proofs.Written.{length_codes}
 use Rattle.decode.specs.declared.kind.Kind.{Kind}
-use Rattle.decode.specs.declared.kind.Kind.TheVariants.{Rate, Sample, Beacon, None}
+use Rattle.decode.specs.declared.kind.Kind.TheVariants.{Rate, Sample, Beacon}
 use Rattle.decode.specs.Read.{mark_of, code_at, rate_at, rates_of, codes_good, sum_good}
 use Rattle.decode.proofs.Back.{within, summed_good}
 use Rattle.converter.specs.Convert.{rates_in, recoded, rates_exact}
@@ -29,10 +30,10 @@ use Rattle.converter.specs.Convert.{rates_in, recoded, rates_exact}
 -- ---- the rates of a packet
 
 -- they stand before the frame
-pub rates_fit : (k : Kind) → body_at + code_bytes * rates_in k ≤ frame_at
-rates_fit Rate = omega arith
-rates_fit Sample = omega arith
-rates_fit Beacon = omega arith
+pub rates_fit : (k : Option Kind) → body_at + code_bytes * rates_in k ≤ frame_at
+rates_fit (Some Rate) = omega arith
+rates_fit (Some Sample) = omega arith
+rates_fit (Some Beacon) = omega arith
 rates_fit None = omega arith
 
 length_rates : (n : ℕ) (xs : List ℕ) → length (rates_of n xs) ≡ n

@@ -1,4 +1,5 @@
 -- A converted packet is read as the packet was, but for the mark. Assumes nothing.
+use Rattle.std.specs.Prelude.{Option, Some}
 use mathlib.Core.Path.{◌≡◌, sym, ap, ◌∙◌}
 use mathlib.Core.Logic.{inl, inr}
 use mathlib.Core.Bool.{true, ◌&&◌}
@@ -97,7 +98,7 @@ module _ (wanted n : ℕ) (xs : List ℕ) (lx : length xs ≡ packet_bytes) (fit
   codes_same g = codes_recoded wanted n xs lx fits g ∙ sym g
 
   -- its header and frame are those of before, whatever else is read of it
-  accepted_same : (k : Kind) (mark : ℕ) (rates : List ℕ) (s : Settings) (sum : ℕ) (beacons : List ℕ) (p : ℕ)
+  accepted_same : (k : Option Kind) (mark : ℕ) (rates : List ℕ) (s : Settings) (sum : ℕ) (beacons : List ℕ) (p : ℕ)
       → accepted k ys wanted rates s sum beacons p ≡ with_mark wanted (accepted k xs mark rates s sum beacons p)
   unfolding accepted
   accepted_same k mark rates s sum beacons p =
@@ -125,7 +126,7 @@ module _ (wanted : ℕ) (xs : List ℕ) (lx : length xs ≡ packet_bytes) where
 
   -- a byte behind the codes
   behind : (i : ℕ) → gap_at ≤ i → i < frame_at → get_or zs i 0 ≡ get_or xs i 0
-  behind i l h = rest wanted rate_count xs lx (rates_fit Rate) i (omega (arith, l)) (omega (arith, h)) (λ e. omega (arith, h, e))
+  behind i l h = rest wanted rate_count xs lx (rates_fit (Some Rate)) i (omega (arith, l)) (omega (arith, h)) (λ e. omega (arith, h, e))
 
   limhi_same : at16 zs limhi_at ≡ at16 xs limhi_at
   limhi_same =
@@ -156,19 +157,19 @@ module _ (wanted : ℕ) (xs : List ℕ) (lx : length xs ≡ packet_bytes) where
   pub rate_good_lem : wanted ≤ converted_mark → rate_good xs ≡ true → rate_good zs ≡ true
   unfolding rate_good
   rate_good_lem h g =
-      let c = codes_same wanted rate_count xs lx (rates_fit Rate) (rate_codes xs g) in
+      let c = codes_same wanted rate_count xs lx (rates_fit (Some Rate)) (rate_codes xs g) in
       let gap = behind gap_at (omega arith) (omega arith) in
       let f = behind flags_at (omega arith) (omega arith) in
-      let e = end_same wanted rate_count xs lx (rates_fit Rate) h (rate_end xs g) in
+      let e = end_same wanted rate_count xs lx (rates_fit (Some Rate)) h (rate_end xs g) in
       (λ k. c k && eqb (gap k) 0 && eqb (f k % junk_flag) 0 && leb (limhi_same k) largest_limhi && e k) ∙ g
 
-  pub rate_same : rates_exact wanted rate_count xs ≡ true → contents Rate zs ≡ with_mark wanted (contents Rate xs)
+  pub rate_same : rates_exact wanted rate_count xs ≡ true → contents (Some Rate) zs ≡ with_mark wanted (contents (Some Rate) xs)
   unfolding contents
   rate_same e =
-      let f = rates_fit Rate in
-      (λ k. accepted Rate zs (mark_recoded wanted rate_count xs lx f k) (rates_recoded wanted rate_count xs lx f e k) (settings_same k) (sum_same k)
+      let f = rates_fit (Some Rate) in
+      (λ k. accepted (Some Rate) zs (mark_recoded wanted rate_count xs lx f k) (rates_recoded wanted rate_count xs lx f e k) (settings_same k) (sum_same k)
       (zeros beacon_count) 0)
-      ∙ accepted_same wanted rate_count xs lx f Rate (mark_of xs) (rates_of rate_count xs) (settings_of xs) (sum_of xs) (zeros beacon_count) 0
+      ∙ accepted_same wanted rate_count xs lx f (Some Rate) (mark_of xs) (rates_of rate_count xs) (settings_of xs) (sum_of xs) (zeros beacon_count) 0
 
 -- ---- a beacon packet
 
@@ -179,17 +180,17 @@ module _ (wanted : ℕ) (xs : List ℕ) (lx : length xs ≡ packet_bytes) where
   pub beacon_good_lem : wanted ≤ converted_mark → beacon_good xs ≡ true → beacon_good bs ≡ true
   unfolding beacon_good zeros_good
   beacon_good_lem h g =
-      let c = codes_same wanted beacon_count xs lx (rates_fit Beacon) (beacon_codes xs g) in
+      let c = codes_same wanted beacon_count xs lx (rates_fit (Some Beacon)) (beacon_codes xs g) in
       let z = each_same beacon_unused (λ i. eqb (get_or bs (beacon_end + i) 0) 0) (λ i. eqb (get_or xs (beacon_end + i) 0) 0) (λ i l.
       ap (λ (x : ℕ). eqb x 0)
-      (rest wanted beacon_count xs lx (rates_fit Beacon) (beacon_end + i) (omega arith) (omega (arith, l)) (λ e. omega (arith, l, e)))) in
-      let e = end_same wanted beacon_count xs lx (rates_fit Beacon) h (beacon_end_lem xs g) in
+      (rest wanted beacon_count xs lx (rates_fit (Some Beacon)) (beacon_end + i) (omega arith) (omega (arith, l)) (λ e. omega (arith, l, e)))) in
+      let e = end_same wanted beacon_count xs lx (rates_fit (Some Beacon)) h (beacon_end_lem xs g) in
       (λ k. c k && z k && e k) ∙ g
 
-  pub beacon_same : rates_exact wanted beacon_count xs ≡ true → contents Beacon bs ≡ with_mark wanted (contents Beacon xs)
+  pub beacon_same : rates_exact wanted beacon_count xs ≡ true → contents (Some Beacon) bs ≡ with_mark wanted (contents (Some Beacon) xs)
   unfolding contents
   beacon_same e =
-      let f = rates_fit Beacon in
-      (λ k. accepted Beacon bs (mark_recoded wanted beacon_count xs lx f k) (zeros rate_count) no_settings 0
+      let f = rates_fit (Some Beacon) in
+      (λ k. accepted (Some Beacon) bs (mark_recoded wanted beacon_count xs lx f k) (zeros rate_count) no_settings 0
       (rates_recoded wanted beacon_count xs lx f e k) 0)
-      ∙ accepted_same wanted beacon_count xs lx f Beacon (mark_of xs) (zeros rate_count) no_settings 0 (rates_of beacon_count xs) 0
+      ∙ accepted_same wanted beacon_count xs lx f (Some Beacon) (mark_of xs) (zeros rate_count) no_settings 0 (rates_of beacon_count xs) 0

@@ -1,4 +1,5 @@
 -- When a packet is converted, and with which number it is refused otherwise, by what the reader says of it. Assumes nothing.
+use Rattle.std.specs.Prelude.{Option, Some}
 use mathlib.Core.Path.{◌≡◌, refl, sym, ap, subst, ◌∙◌}
 use mathlib.Core.Logic.{⊎_elim}
 use mathlib.Core.Bool.{Bool, true, false, not, cond, false≢true}
@@ -20,8 +21,7 @@ use Rattle.packet.specs.Layout.{packet_bytes}
 use Rattle.decode.specs.declared.kind.Kind.{Kind}
 use Rattle.decode.specs.declared.kind.Kind.TheVariants.{Rate, Sample, Beacon}
 use Rattle.decode.specs.Read.{application_of, kind_of, mark_of, code_at, rate_at, rates_of, codes_good, read_number}
-use Rattle.ground.specs.declared.Packet.{Packet}
-use Rattle.ground.specs.Ground.{accepted, contents, read_of}
+use Rattle.ground.specs.Ground.{Packet, accepted, contents, read_of}
 use Rattle.ground.proofs.Answers.{read_accepted, number_read, kind_read}
 use Rattle.converter.specs.Convert.{rates_in, rate_count_of, convertible, rates_exact, convert_checks, convert_number, convert_done}
 use Rattle.converter.specs.ConvertTheorems.{Taken, OfRates, InFirst, rates_for, rates_read, HasFirst, EachFirst, SomeNoFirst, leaves}
@@ -45,38 +45,38 @@ module _ (xs : List ℕ) (t : Taken xs) where
   acc = sym (number_read xs) ∙ t
 
   -- its kind
-  kind_is : (k : Kind) → (read_of xs).kind ≡ k → kind_of (application_of xs) ≡ k
+  kind_is : (k : Option Kind) → (read_of xs).kind ≡ k → kind_of (application_of xs) ≡ k
   kind_is k e = sym (kind_read xs acc) ∙ e
 
   -- it has no rates if it is a sample packet
-  no_rates : (read_of xs).kind ≡ Sample → (wanted : ℕ) → convertible wanted xs ≡ false
+  no_rates : (read_of xs).kind ≡ Some Sample → (wanted : ℕ) → convertible wanted xs ≡ false
   unfolding convertible
-  no_rates e wanted = rw (kind_is Sample e)
+  no_rates e wanted = rw (kind_is (Some Sample) e)
 
   -- a packet of rates: how many, which, and the mark
   module _ (r : OfRates xs) where
     some_rates : eqb (rate_count_of xs) 0 ≡ false
-    some_rates = ⊎_elim (λ (e : (read_of xs).kind ≡ Rate). rw (kind_is Rate e)) (λ (e : (read_of xs).kind ≡ Beacon). rw (kind_is Beacon e)) r
+    some_rates = ⊎_elim (λ (e : (read_of xs).kind ≡ Some Rate). rw (kind_is (Some Rate) e)) (λ (e : (read_of xs).kind ≡ Some Beacon). rw (kind_is (Some Beacon) e)) r
 
-    mark_by : (k : Kind) → kind_of (application_of xs) ≡ k → (contents k xs).mark ≡ mark_of xs → (read_of xs).mark ≡ mark_of xs
+    mark_by : (k : Option Kind) → kind_of (application_of xs) ≡ k → (contents k xs).mark ≡ mark_of xs → (read_of xs).mark ≡ mark_of xs
     mark_by k q e = ap (λ (p : Packet). p.mark) (read_accepted xs k acc q) ∙ e
 
     mark_is : (read_of xs).mark ≡ mark_of xs
     unfolding contents accepted
     mark_is =
-        ⊎_elim (λ (e : (read_of xs).kind ≡ Rate). mark_by Rate (kind_is Rate e) refl)
-        (λ (e : (read_of xs).kind ≡ Beacon). mark_by Beacon (kind_is Beacon e) refl) r
+        ⊎_elim (λ (e : (read_of xs).kind ≡ Some Rate). mark_by (Some Rate) (kind_is (Some Rate) e) refl)
+        (λ (e : (read_of xs).kind ≡ Some Beacon). mark_by (Some Beacon) (kind_is (Some Beacon) e) refl) r
 
-    rates_by : (k : Kind) → kind_of (application_of xs) ≡ k → rates_for k (contents k xs) ≡ rates_of (rates_in k) xs
+    rates_by : (k : Option Kind) → kind_of (application_of xs) ≡ k → rates_for k (contents k xs) ≡ rates_of (rates_in k) xs
         → rates_read xs ≡ rates_of (rate_count_of xs) xs
     rates_by k q e =
-        (λ i. rates_for ((kind_read xs acc ∙ q) i) (read_accepted xs k acc q i)) ∙ e ∙ ap (λ (t : Kind). rates_of (rates_in t) xs) (sym q)
+        (λ i. rates_for ((kind_read xs acc ∙ q) i) (read_accepted xs k acc q i)) ∙ e ∙ ap (λ (t : Option Kind). rates_of (rates_in t) xs) (sym q)
 
     rates_are : rates_read xs ≡ rates_of (rate_count_of xs) xs
     unfolding contents accepted
     rates_are =
-        ⊎_elim (λ (e : (read_of xs).kind ≡ Rate). rates_by Rate (kind_is Rate e) refl)
-        (λ (e : (read_of xs).kind ≡ Beacon). rates_by Beacon (kind_is Beacon e) refl) r
+        ⊎_elim (λ (e : (read_of xs).kind ≡ Some Rate). rates_by (Some Rate) (kind_is (Some Rate) e) refl)
+        (λ (e : (read_of xs).kind ≡ Some Beacon). rates_by (Some Beacon) (kind_is (Some Beacon) e) refl) r
 
     many : length (rates_read xs) ≡ rate_count_of xs
     unfolding rates_of

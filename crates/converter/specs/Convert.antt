@@ -1,5 +1,5 @@
 -- Converting a rate or beacon packet from one edition of the rate code to the other (document 02, Point 6). Assumes nothing.
-use Rattle.std.specs.Prelude.{ℕ, Bool, not, cond, ◌&&◌, List, [], ◌∷◌, ◌++◌, eqb, length, take, set}
+use Rattle.std.specs.Prelude.{ℕ, Bool, not, cond, ◌&&◌, Option, Some, None, List, [], ◌∷◌, ◌++◌, eqb, length, take, set}
 use Rattle.causes.specs.Causes.{carried_out, buffer_or_state, body_fault, no_first_code}
 use Rattle.causes.specs.Checks.{Check, number_by}
 use Rattle.wire.specs.Bytes.{put}
@@ -9,14 +9,14 @@ use Rattle.rate_code.specs.Editions.{first_mark, converted_mark, is_first, exact
 use Rattle.packet.specs.Layout.{packet_bytes, body_at, mark_at, sum_at, rate_count}
 use Rattle.packet.specs.Packet.{summed, codes}
 use Rattle.decode.specs.declared.kind.Kind.{Kind}
-use Rattle.decode.specs.declared.kind.Kind.TheVariants.{Rate, Sample, Beacon, None}
+use Rattle.decode.specs.declared.kind.Kind.TheVariants.{Rate, Sample, Beacon}
 use Rattle.decode.specs.Read.{application_of, kind_of, mark_of, rate_at, rates_of, read_checks}
 
 -- how many rates a packet of the kind has
-abbrev pub rates_in : Kind → ℕ
-rates_in Rate = rate_count
-rates_in Sample = 0
-rates_in Beacon = beacon_count
+abbrev pub rates_in : Option Kind → ℕ
+rates_in (Some Rate) = rate_count
+rates_in (Some Sample) = 0
+rates_in (Some Beacon) = beacon_count
 rates_in None = 0
 
 abbrev pub rate_count_of : List ℕ → ℕ

@@ -1,6 +1,6 @@
 -- What is proved of converting (document 02, Point 6). `to_second` and `to_first` are what the two calls do, by their contracts.
 -- Assumes nothing.
-use Rattle.std.specs.Prelude.{ℕ, ◌<◌, ◌≤◌, ◌≡◌, ◌⊎◌, true, List, [], length, take, get_or, set}
+use Rattle.std.specs.Prelude.{ℕ, ◌<◌, ◌≤◌, ◌≡◌, ◌⊎◌, true, Option, Some, None, List, [], length, take, get_or, set}
 use Rattle.causes.specs.Causes.{carried_out, buffer_or_state, body_fault, no_first_code}
 use Rattle.causes.specs.Checks.{Lowest}
 use Rattle.wire.specs.Lists.{EachBelow}
@@ -9,10 +9,9 @@ use Rattle.rate_code.specs.Editions.{first_mark, converted_mark}
 use Rattle.packet.specs.Layout.{packet_bytes, mark_at, sum_at}
 use Rattle.packet.specs.Packet.{summed}
 use Rattle.decode.specs.declared.kind.Kind.{Kind}
-use Rattle.decode.specs.declared.kind.Kind.TheVariants.{Rate, Sample, Beacon, None}
+use Rattle.decode.specs.declared.kind.Kind.TheVariants.{Rate, Sample, Beacon}
 use Rattle.decode.specs.Read.{mark_of}
-use Rattle.ground.specs.declared.Packet.{Packet}
-use Rattle.ground.specs.Ground.{read_of}
+use Rattle.ground.specs.Ground.{Packet, read_of}
 use Rattle.converter.specs.Convert.{convert_checks, Converted, convert_done, to_second, to_first}
 
 -- ---- the bytes
@@ -64,17 +63,17 @@ Taken xs = (read_of xs).number ≡ carried_out
 
 -- as "a rate or beacon packet"
 abbrev pub OfRates : List ℕ → Type 0
-OfRates xs = ((read_of xs).kind ≡ Rate) ⊎ ((read_of xs).kind ≡ Beacon)
+OfRates xs = ((read_of xs).kind ≡ Some Rate) ⊎ ((read_of xs).kind ≡ Some Beacon)
 
 -- of the first edition; otherwise it is marked 1 or 2
 abbrev pub InFirst : List ℕ → Type 0
 InFirst xs = (read_of xs).mark ≡ first_mark
 
 -- the rates that it returns: least counts
-abbrev pub rates_for : Kind → Packet → List ℕ
-rates_for Rate p = p.rates
-rates_for Sample p = []
-rates_for Beacon p = p.beacons
+abbrev pub rates_for : Option Kind → Packet → List ℕ
+rates_for (Some Rate) p = p.rates
+rates_for (Some Sample) p = []
+rates_for (Some Beacon) p = p.beacons
 rates_for None p = []
 
 abbrev pub rates_read : List ℕ → List ℕ
@@ -100,7 +99,7 @@ pub record SecondWhen (xs out : List ℕ) : Type 0 where
   -- "Convert a rate or beacon packet of the first edition to the second"
   pub converted : Taken xs → OfRates xs → InFirst xs → (to_second xs out).number ≡ carried_out
   -- "A sample packet, .."
-  pub sample : Taken xs → (read_of xs).kind ≡ Sample → to_second xs out ≡ leaves out body_fault
+  pub sample : Taken xs → (read_of xs).kind ≡ Some Sample → to_second xs out ≡ leaves out body_fault
   -- ".. or one already in the edition wanted, gets 13"
   pub already : Taken xs → OfRates xs → (InFirst xs → ⊥) → to_second xs out ≡ leaves out body_fault
   -- what the reader refuses has its number
@@ -113,7 +112,7 @@ pub record FirstWhen (xs out : List ℕ) : Type 0 where
   -- "17 when no first-edition code has some rate's least count, after 13"
   pub inexact : Taken xs → OfRates xs → (InFirst xs → ⊥) → SomeNoFirst xs → to_first xs out ≡ leaves out no_first_code
   -- "A sample packet, .."
-  pub sample : Taken xs → (read_of xs).kind ≡ Sample → to_first xs out ≡ leaves out body_fault
+  pub sample : Taken xs → (read_of xs).kind ≡ Some Sample → to_first xs out ≡ leaves out body_fault
   -- ".. or one already in the edition wanted, gets 13"
   pub already : Taken xs → OfRates xs → InFirst xs → to_first xs out ≡ leaves out body_fault
   -- what the reader refuses has its number

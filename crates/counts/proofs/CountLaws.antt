@@ -1,10 +1,11 @@
 -- One more in a box keeps the boxes bounded, and the steps of an event in a cell are its boxes and beacon. Assumes nothing.
 use mathlib.Core.Path.{◌≡◌, refl}
-use mathlib.Core.Bool.{Bool, true, false, cond}
-use mathlib.Core.List.{List, [], ◌∷◌}
+use mathlib.Core.Bool.{Bool}
+use Rattle.std.specs.Prelude.{Option, Some, None}
+use mathlib.Core.List.{[], ◌∷◌}
 use Prim.Native.Nat.{ℕ, ◌+◌, ◌-◌}
-use lib.Dec.{leb}
-use Rattle.wire.specs.Lists.{EachBelow, bump}
+use Rattle.std.specs.Option.{option_to_list}
+use Rattle.wire.specs.Lists.{EachBelow}
 use Rattle.wire.proofs.Lists.{each_bump}
 use Rattle.sort.specs.declared.matrix.Cell.{Cell}
 use Rattle.sort.specs.declared.sorting.Outcome.TheVariants.{InCell}
@@ -15,17 +16,12 @@ use Rattle.counts.specs.Counts.{gain_box, priority_box, with_box, with_beacon, t
 pub box_below : (n : ℕ) (c r : Counts) (b : ℕ) → r ≡ with_box c b → EachBelow n c.boxes → EachBelow (n + 1) r.boxes
 box_below n c r b e h k = rw e (each_bump n c.boxes (b - 1) h k)
 
--- a beacon that is not 0 is a list of one
-tallied_beacon : (t : Bool) (xs : List ℕ) (n : ℕ) → cond t (bump xs (n - 1)) xs ≡ tallied xs (cond t (n ∷ []) [])
-tallied_beacon true xs n = refl
-tallied_beacon false xs n = refl
-
 -- the steps of an event in a cell
 pub cell_counted : (c : Counts) (gain : Bool) (cell : Cell)
     → with_beacon (with_box (with_box (with_box c (gain_box gain)) (priority_box cell.priority)) cell.ratebox) cell.beacon
     ≡ counted_of c (InCell gain cell)
 unfolding counted_of
-cell_counted c gain cell = λ i. record {
-  boxes = tallied c.boxes (gain_box gain ∷ priority_box cell.priority ∷ cell.ratebox ∷ []);
-  beacons = tallied_beacon (leb 1 cell.beacon) c.beacons cell.beacon i;
-}
+cell_counted c gain cell =
+    elim cell.beacon as (λ (n : Option ℕ). with_beacon (with_box (with_box (with_box c (gain_box gain)) (priority_box cell.priority)) cell.ratebox) n
+    ≡ record { boxes = tallied c.boxes (gain_box gain ∷ priority_box cell.priority ∷ cell.ratebox ∷ []); beacons = tallied c.beacons (option_to_list n) })
+    [ Some n ↦ refl | None ↦ refl ]

@@ -1,16 +1,19 @@
 -- An event counts in different boxes and beacons, so that each count of a table rises by one exactly where its number is among them.
 -- Assumes nothing.
 use mathlib.Core.Path.{◌≡◌, refl, sym, ap, ◌∙◌}
-use mathlib.Core.Bool.{Bool, true, false, ◌||◌, cond}
+use mathlib.Core.Bool.{Bool, true, false, ◌||◌}
 use mathlib.Core.List.{List, [], ◌∷◌}
 use Prim.Native.Nat.{ℕ, ◌+◌, ◌-◌, ◌≤◌, ◌<◌}
 use native.Mathlib.Nat.{add-zero}
 use native.Mathlib.Omega.{arith}
 use native.Mathlib.Decide.{ℕ_discrete}
-use borrow.Author.Tests.{eq-eqb, ne_eqb, leb-true}
-use lib.Dec.{eqb, leb}
+use borrow.Author.Tests.{eq-eqb, ne_eqb}
+use lib.Dec.{eqb}
 use lib.ListN.{length, get_or, length-set}
 use lib.Seq.{get_or-set_same, get_or-set_other}
+use Rattle.std.specs.Prelude.{Option, Some, None, IfSome}
+use Rattle.std.specs.Option.{option_to_list}
+use Rattle.boxes.specs.Boxes.{beacon_count}
 use Rattle.wire.specs.Bits.{bit_of}
 use Rattle.wire.specs.Lists.{all, at_most, holds, bump}
 use Rattle.wire.specs.Pieces.{table}
@@ -84,14 +87,14 @@ boxes_differ (InCell gain cell) h = cells gain cell.priority cell.ratebox h.0
     cells false true b k = three 3 2 b (omega arith) (omega arith) (omega arith) (omega arith) refl k
     cells false false b k = three 3 1 b (omega arith) (omega arith) (omega arith) (omega arith) refl k
 
-pub beacons_differ : (o : Outcome) → Differ (beacons_of o)
-beacons_differ Discarded = tt
-beacons_differ (OutOfBounds gain) = tt
-beacons_differ (InCell gain cell) = go (leb 1 cell.beacon) refl
+pub beacons_differ : (o : Outcome) → OutcomeNames o → Differ (beacons_of o)
+beacons_differ Discarded h = tt
+beacons_differ (OutOfBounds gain) h = tt
+beacons_differ (InCell gain cell) h = go cell.beacon h.2
   where
-    go : (b : Bool) → leb 1 cell.beacon ≡ b → Differ (cond b (cell.beacon ∷ []) [])
-    go true q = (leb-true 1 cell.beacon q, (refl, tt))
-    go false q = tt
+    go : (b : Option ℕ) → IfSome b (λ n. (1 ≤ n) × (n ≤ beacon_count)) → Differ (option_to_list b)
+    go (Some n) h = (h.0, (refl, tt))
+    go None h = tt
 
 -- ---- so no count rises by more than one
 

@@ -1,5 +1,6 @@
 -- The boxes and beacons that an event counts in (document 01, "One event", rules 1, 2, 4 and 5). Assumes nothing.
-use Rattle.std.specs.Prelude.{Bool, cond, List, [], ◌∷◌, ℕ, ◌-◌, leb}
+use Rattle.std.specs.Prelude.{Bool, cond, List, [], ◌∷◌, ℕ, ◌-◌, Option, Some, None}
+use Rattle.std.specs.Option.{option_to_list}
 use Rattle.wire.specs.Lists.{bump}
 use Rattle.sort.specs.declared.sorting.Outcome.{Outcome}
 use Rattle.sort.specs.declared.sorting.Outcome.TheVariants.{Discarded, OutOfBounds, InCell}
@@ -23,7 +24,7 @@ boxes_of (InCell gain cell) = gain_box gain ∷ priority_box cell.priority ∷ c
 abbrev pub beacons_of : Outcome → List ℕ
 beacons_of Discarded = []
 beacons_of (OutOfBounds gain) = []
-beacons_of (InCell gain cell) = cond (leb 1 cell.beacon) (cell.beacon ∷ []) []
+beacons_of (InCell gain cell) = option_to_list cell.beacon
 
 -- one more for each number of the list; number n is counted at index n - 1
 abbrev pub tallied : List ℕ → List ℕ → List ℕ
@@ -34,9 +35,10 @@ tallied counts (n ∷ ns) = tallied (bump counts (n - 1)) ns
 unfoldable pub counted_of : Counts → Outcome → Counts
 counted_of c o = record { boxes = tallied c.boxes (boxes_of o); beacons = tallied c.beacons (beacons_of o) }
 
--- the parts of it: one more in a box, and in a beacon that is not 0
+-- the parts of it: one more in a box, and in a beacon if there is one
 abbrev pub with_box : Counts → ℕ → Counts
 with_box c b = record { boxes = bump c.boxes (b - 1); beacons = c.beacons }
 
-abbrev pub with_beacon : Counts → ℕ → Counts
-with_beacon c n = record { boxes = c.boxes; beacons = cond (leb 1 n) (bump c.beacons (n - 1)) c.beacons }
+abbrev pub with_beacon : Counts → Option ℕ → Counts
+with_beacon c (Some n) = record { boxes = c.boxes; beacons = bump c.beacons (n - 1) }
+with_beacon c None = c

@@ -1,4 +1,5 @@
 -- A reader accepts every packet that a writer writes, and finds in it what went in, by kind. Assumes nothing.
+use Rattle.std.specs.Prelude.{Option, Some}
 use mathlib.Core.Path.{◌≡◌, refl, sym, ap, ◌∙◌}
 use mathlib.Core.Bool.{true}
 use mathlib.Core.List.{List, ◌++◌, map}
@@ -39,15 +40,15 @@ use Rattle.decode.proofs.Back.{both, behind}
 
 -- ---- the application numbers' kinds
 
-pub rate_kind : kind_of rate_application ≡ Rate
+pub rate_kind : kind_of rate_application ≡ Some Rate
 unfolding kind_of
 rate_kind = refl
 
-pub beacon_kind : kind_of beacon_application ≡ Beacon
+pub beacon_kind : kind_of beacon_application ≡ Some Beacon
 unfolding kind_of
 beacon_kind = refl
 
-pub sample_kind : (p : ℕ) → p ≤ last_sample → kind_of (application_of_sample p) ≡ Sample
+pub sample_kind : (p : ℕ) → p ≤ last_sample → kind_of (application_of_sample p) ≡ Some Sample
 unfolding kind_of
 sample_kind p h =
     let n : ℕ = application_of_sample p in
@@ -75,13 +76,13 @@ module _ (a : ℕ) (st : Stamp) (body : List ℕ) (lb : length body ≡ body_byt
   pub application_back : application_of P ≡ a
   application_back = back.application_back a _ _ _ inner ha
 
-  pub kind_back : (k : Kind) → kind_of a ≡ k → kind_of (application_of P) ≡ k
+  pub kind_back : (k : Option Kind) → kind_of a ≡ k → kind_of (application_of P) ≡ k
   kind_back k e = ap kind_of application_back ∙ e
 
-  number_back : (k : Kind) → kind_of a ≡ k → is_kind k ≡ true → body_good k P ≡ true → read_number P ≡ 0
+  number_back : (k : Option Kind) → kind_of a ≡ k → is_kind k ≡ true → body_good k P ≡ true → read_number P ≡ 0
   number_back k e i g =
       accepted_is P (back.header_back a _ _ _ inner ha (ap is_kind e ∙ i)) (back.sum_back a _ _ _ inner)
-      (ap (λ (x : Kind). body_good x P) (kind_back k e) ∙ g)
+      (ap (λ (x : Option Kind). body_good x P) (kind_back k e) ∙ g)
 
   -- codes that counts have are without fault, and give the counts' least counts
   codes_back : (ns rest : List ℕ) → body ≡ codes st.mark ns ++ rest → EachBelow count_limit ns → (n : ℕ) → length ns ≡ n
@@ -185,7 +186,7 @@ module _ (st : Stamp) (fits : StampFits last_mark st) (totals boxes : List ℕ) 
 
   pub rate_number : read_number rate_is ≡ 0
   unfolding body_good
-  rate_number = number_back rate_application st rate_body_lem rate_length (omega arith) Rate rate_kind refl rate_good_back
+  rate_number = number_back rate_application st rate_body_lem rate_length (omega arith) (Some Rate) rate_kind refl rate_good_back
 
 -- ---- a sample packet
 
@@ -224,7 +225,7 @@ module _ (st : Stamp) (fits : StampFits last_sample st) (records : List ℕ) (v 
   unfolding body_good
   sample_number =
       let kind = sample_kind st.mark fits.mark_fits in
-      number_back number_is st (words records) sample_length application_fits Sample kind refl sample_good_back
+      number_back number_is st (words records) sample_length application_fits (Some Sample) kind refl sample_good_back
 
 -- ---- a beacon packet
 
@@ -262,4 +263,4 @@ module _ (st : Stamp) (fits : StampFits last_mark st) (beacons : List ℕ) (v : 
 
   pub beacon_number : read_number beacon_is ≡ 0
   unfolding body_good
-  beacon_number = number_back beacon_application st beacon_body_lem beacon_length (omega arith) Beacon beacon_kind refl beacon_good_back
+  beacon_number = number_back beacon_application st beacon_body_lem beacon_length (omega arith) (Some Beacon) beacon_kind refl beacon_good_back

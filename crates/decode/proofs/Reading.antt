@@ -1,4 +1,5 @@
 -- A packet is accepted exactly where it passes every test, and then has 272 bytes and the codes of its kind. Assumes nothing.
+use Rattle.std.specs.Prelude.{Option, Some}
 use mathlib.Core.Path.{◌≡◌, refl, sym, ap, ◌∙◌}
 use mathlib.Core.Bool.{true, ◌&&◌}
 use mathlib.Core.List.{List}
@@ -36,22 +37,22 @@ passed xs e = all_passed (read_checks xs) refl e
 pub accepted_length : (xs : List ℕ) → read_number xs ≡ 0 → length xs ≡ packet_bytes
 accepted_length xs e = header_length xs (passed xs e).0
 
-pub accepted_body : (xs : List ℕ) (k : Kind) → read_number xs ≡ 0 → kind_of (application_of xs) ≡ k → body_good k xs ≡ true
-accepted_body xs k e q = sym (ap (λ (t : Kind). body_good t xs) q) ∙ (passed xs e).1.1.0
+pub accepted_body : (xs : List ℕ) (k : Option Kind) → read_number xs ≡ 0 → kind_of (application_of xs) ≡ k → body_good k xs ≡ true
+accepted_body xs k e q = sym (ap (λ (t : Option Kind). body_good t xs) q) ∙ (passed xs e).1.1.0
 
-pub accepted_rate : (xs : List ℕ) → body_good Rate xs ≡ true → rate_good xs ≡ true
+pub accepted_rate : (xs : List ℕ) → body_good (Some Rate) xs ≡ true → rate_good xs ≡ true
 unfolding body_good
 accepted_rate xs e = e
 
-pub accepted_beacon : (xs : List ℕ) → body_good Beacon xs ≡ true → beacon_good xs ≡ true
+pub accepted_beacon : (xs : List ℕ) → body_good (Some Beacon) xs ≡ true → beacon_good xs ≡ true
 unfolding body_good
 accepted_beacon xs e = e
 
-pub rate_accepted : (xs : List ℕ) → rate_good xs ≡ true → body_good Rate xs ≡ true
+pub rate_accepted : (xs : List ℕ) → rate_good xs ≡ true → body_good (Some Rate) xs ≡ true
 unfolding body_good
 rate_accepted xs e = e
 
-pub beacon_accepted : (xs : List ℕ) → beacon_good xs ≡ true → body_good Beacon xs ≡ true
+pub beacon_accepted : (xs : List ℕ) → beacon_good xs ≡ true → body_good (Some Beacon) xs ≡ true
 unfolding body_good
 beacon_accepted xs e = e
 

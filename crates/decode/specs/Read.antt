@@ -1,6 +1,6 @@
 -- What a reader finds in a packet, and the number with which it refuses one (document 01, "Packets" and "Causes and their numbers").
 -- Assumes nothing.
-use Rattle.std.specs.Prelude.{ℕ, ◌+◌, ◌*◌, ◌/◌, ◌%◌, Bool, true, false, cond, ◌&&◌, List, [], ◌∷◌, leb, eqb, length, take, get_or}
+use Rattle.std.specs.Prelude.{ℕ, ◌+◌, ◌*◌, ◌/◌, ◌%◌, Bool, true, false, cond, ◌&&◌, Option, Some, None, List, [], ◌∷◌, leb, eqb, length, take, get_or}
 use Rattle.causes.specs.Causes.{no_header, packet_sum, body_fault}
 use Rattle.causes.specs.Checks.{Check, number_by}
 use Rattle.wire.specs.Bits.{is_set}
@@ -18,7 +18,7 @@ use Rattle.packet.specs.Layout.{gap_at, hvstep_at, flags_at, limhi_at, table_sum
 use Rattle.packet.specs.Packet.{rate_application, sample_application, beacon_application, application_of_sample}
 use Rattle.decode.specs.Limits.{last_sample, largest_limhi, last_mark}
 use Rattle.decode.specs.declared.kind.Kind.{Kind}
-use Rattle.decode.specs.declared.kind.Kind.TheVariants.{Rate, Sample, Beacon, None}
+use Rattle.decode.specs.declared.kind.Kind.TheVariants.{Rate, Sample, Beacon}
 
 -- ---- the fields
 
@@ -42,17 +42,15 @@ abbrev pub last_of : List ℕ → ℕ
 last_of xs = get_or xs last_at 0
 
 -- "rate (application number 605), samples 606 to 616, beacon 624"
-unfoldable pub kind_of : ℕ → Kind
+unfoldable pub kind_of : ℕ → Option Kind
 kind_of a =
-    cond (eqb a rate_application) Rate
-    (cond (eqb a beacon_application) Beacon
-    (cond (leb sample_application a && leb a (application_of_sample last_sample)) Sample None))
+    cond (eqb a rate_application) (Some Rate)
+    (cond (eqb a beacon_application) (Some Beacon)
+    (cond (leb sample_application a && leb a (application_of_sample last_sample)) (Some Sample) None))
 
 -- whether it is a kind at all
-abbrev pub is_kind : Kind → Bool
-is_kind Rate = true
-is_kind Sample = true
-is_kind Beacon = true
+abbrev pub is_kind : Option Kind → Bool
+is_kind (Some _) = true
 is_kind None = false
 
 -- code i, and record i, of those that the body begins with
@@ -146,10 +144,10 @@ sample_good xs =
 unfoldable pub beacon_good : List ℕ → Bool
 beacon_good xs = codes_good beacon_count xs && zeros_good beacon_end beacon_unused xs && end_good xs
 
-unfoldable pub body_good : Kind → List ℕ → Bool
-body_good Rate xs = rate_good xs
-body_good Sample xs = sample_good xs
-body_good Beacon xs = beacon_good xs
+unfoldable pub body_good : Option Kind → List ℕ → Bool
+body_good (Some Rate) xs = rate_good xs
+body_good (Some Sample) xs = sample_good xs
+body_good (Some Beacon) xs = beacon_good xs
 body_good None xs = false
 
 -- ---- the number

@@ -1,41 +1,26 @@
 // The kinds of packet, by application number.
 ghost use Rattle.std.specs.Prelude.{◌≡◌};
-ghost use Rattle.decode.specs.Read.{kind_of, is_kind};
+ghost use Rattle.decode.specs.Read.{kind_of};
 
 use crate::limits::LAST_SAMPLE;
 use packet::applications::{BEACON_APPLICATION, RATE_APPLICATION, SAMPLE_APPLICATION, of_sample};
 
-#[derive(Clone, Copy)]
+#[derive(Clone, Copy, PartialEq, Eq)]
 pub enum Kind {
     Rate,
     Sample,
     Beacon,
-    // No packet's number.
-    None,
 }
 
-pub fn kind_of(application: u16) -> Kind
+// The kind with the application number, if it is that of one.
+#[tactic(auto, unfolding(crate::specs::Read::kind_of))]
+pub fn kind_of(application: u16) -> Option<Kind>
     ensures { result ≡ kind_of application }
 {
-    if application == RATE_APPLICATION {
-        return Kind::Rate;
-    }
-    if application == BEACON_APPLICATION {
-        return Kind::Beacon;
-    }
-    if (SAMPLE_APPLICATION <= application) & (application <= of_sample(LAST_SAMPLE)) {
-        return Kind::Sample;
-    }
-    Kind::None
-}
-
-pub fn is_kind(kind: Kind) -> bool
-    ensures { result ≡ is_kind kind }
-{
-    match kind {
-        Kind::Rate => true,
-        Kind::Sample => true,
-        Kind::Beacon => true,
-        Kind::None => false,
+    match application {
+        RATE_APPLICATION => Some(Kind::Rate),
+        BEACON_APPLICATION => Some(Kind::Beacon),
+        n if (SAMPLE_APPLICATION <= n) & (n <= of_sample(LAST_SAMPLE)) => Some(Kind::Sample),
+        _ => None,
     }
 }

@@ -5,7 +5,6 @@ use Rattle.wire.specs.Bytes.{put}
 use Rattle.wire.specs.Pieces.{count_of}
 use Rattle.listing_packet.specs.Listing.{listing_packets, piece_bytes, place_in, words_in, gather_number}
 use Rattle.gatherer.specs.declared.Gathered.{Gathered}
-use Rattle.gatherer.specs.declared.Gathering.{Gathering}
 
 -- a fresh gatherer: none has come
 abbrev pub none_gathered : Gathered
@@ -18,6 +17,11 @@ missing_of g = count_of listing_packets (λ i. not (get_or g.came i false))
 -- packet i has come
 abbrev pub with_packet : Gathered → (i : ℕ) → Gathered
 with_packet g i = record { came = set g.came i true }
+
+-- the number that the call is answered, and what has come then
+pub record Gathering : Type 0 where
+  pub number : ℕ
+  pub gathered : Gathered
 
 -- what the call hands back and leaves in the lent table buffer
 pub record GatherDone : Type 0 where

@@ -2,12 +2,14 @@
 #![tactic(auto)]
 
 ghost use Rattle.std.specs.Prelude.{◌≡◌, ◌≤◌};
+ghost use Rattle.causes.specs.Causes.{call_number};
 ghost use Rattle.listing_packet.specs.Listing.{listing_packets};
 ghost use Rattle.gatherer.specs.Gather.{none_gathered, missing_of, gather_done};
 
+use causes::Cause;
+use listing_packet::judge::{Listed, judge};
+use listing_packet::layout;
 use listing_packet::layout::PACKETS;
-use listing_packet::{judge, layout};
-use wire::bits::bit;
 use wire::write::put_bytes;
 
 // Which of the 250 packets have come.
@@ -16,56 +18,42 @@ pub struct Gathered {
     pub came: [bool; PACKETS],
 }
 
-// 0, or why the packet is refused; and what has come then.
-#[derive(Clone, Copy)]
-pub struct Gathering {
-    pub number: u8,
-    pub gathered: Gathered,
-}
+impl Gathered {
+    // A fresh gatherer.
+    pub fn none() -> Self
+        ensures { result ≡ none_gathered }
+    {
+        Gathered {
+            came: [false; PACKETS],
+        }
+    }
 
-// A fresh gatherer.
-pub fn none() -> Gathered
-    ensures { result ≡ none_gathered }
-{
-    Gathered {
-        came: [false; PACKETS],
+    // How many of the 250 addresses are missing.
+    pub fn missing(&self) -> usize
+        ensures { (result ≡ missing_of self.now) × (result ≤ listing_packets) }
+    {
+        let mut n: usize = 0;
+        for came in &self.came {
+            n += usize::from(!*came);
+        }
+        n
     }
 }
 
-// How many of the 250 addresses are missing.
-pub fn missing(gathered: Gathered) -> usize
-    ensures { (result ≡ missing_of gathered) × (result ≤ listing_packets) }
+// Takes any bytes: a listing packet's words go to their place in the tables, and what is refused changes nothing.
+#[tactic(auto, unfolding(crate::specs::Gather::gather_done))]
+pub fn gather(gathered: &mut Gathered, packet: &[u8], tables: &mut [u8]) -> Result<(), Cause>
+    ensures number { call_number result ≡ (gather_done gathered.old packet.now tables.old).answer.number }
+    ensures gathered { gathered.new ≡ (gather_done gathered.old packet.now tables.old).answer.gathered }
+    ensures tables { tables.new ≡ (gather_done gathered.old packet.now tables.old).tables }
 {
-    let mut n: usize = 0;
-    let mut i: usize = 0;
-    while i < PACKETS {
-        n += bit(!gathered.came[i]) as usize;
-        i += 1;
-    }
-    n
-}
-
-// Takes any bytes: a listing packet's words go to their place in the tables.
-pub fn gather(gathered: Gathered, packet: &[u8], tables: &mut [u8]) -> Gathering
-    ensures answer { result ≡ (gather_done gathered packet.now tables.old).answer }
-    ensures tables { tables.new ≡ (gather_done gathered packet.now tables.old).tables }
-{
-    let number = judge::number(packet, tables.len());
-    if number != causes::CARRIED_OUT {
-        return Gathering { number, gathered };
-    }
-    let i = judge::place_in(packet);
-    let n = layout::piece_size(i);
-    let to = layout::WORDS_AT + n;
+    let Listed { packet, place } = judge(packet, tables.len())?;
+    let end = layout::WORDS_AT + layout::piece_size(place);
     put_bytes(
         tables,
-        layout::PIECE_BYTES * i,
-        &packet[layout::WORDS_AT..to],
+        layout::PIECE_BYTES * place,
+        &packet[layout::WORDS_AT..end],
     );
-    let mut after = gathered;
-    after.came[i] = true;
-    Gathering {
-        number: causes::CARRIED_OUT,
-        gathered: after,
-    }
+    gathered.came[place] = true;
+    Ok(())
 }

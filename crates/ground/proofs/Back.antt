@@ -1,4 +1,5 @@
 -- Reading a written packet gives back its stamp and what its kind was written from; the archive reads as before. Assumes nothing.
+use Rattle.std.specs.Prelude.{Option, Some}
 use mathlib.Core.Path.{◌≡◌, sym, ap, ◌∙◌}
 use mathlib.Core.List.{List, ◌++◌}
 use Prim.Native.Nat.{ℕ, ◌<◌}
@@ -29,7 +30,7 @@ use Rattle.ground.proofs.Answers.{read_accepted, the_records}
 
 -- of a packet of any kind, its stamp
 accepted_back : (a : ℕ) (st : Stamp) (body : List ℕ) → length body ≡ body_bytes → a < secondary_flag → st.sequence < sequence_counts
-    → (k : Kind) (mark : ℕ) (rates : List ℕ) (s : Settings) (sum : ℕ) (beacons : List ℕ) (p : ℕ)
+    → (k : Option Kind) (mark : ℕ) (rates : List ℕ) (s : Settings) (sum : ℕ) (beacons : List ℕ) (p : ℕ)
     → accepted k (packet_of a st body) mark rates s sum beacons p ≡ stamp_read k a st mark rates s sum beacons p
 unfolding accepted
 accepted_back a st body lb ha hq k mark rates s sum beacons p =
@@ -59,11 +60,11 @@ rate_back st totals boxes s sum h v =
     let rates = (kinds.rate_codes st h totals boxes s sum v).1 in
     let settings = kinds.settings_back st h totals boxes s sum v in
     let table-sum = kinds.table_sum_back st h totals boxes s sum v in
-    let k = kinds.kind_back rate_application st B l (omega arith) Rate kinds.rate_kind in (
-      read_accepted P Rate z k
-          ∙ (λ i. accepted Rate P (fields.mark_back rate_application st B l i) (rates i) (settings i) (table-sum i) (zeros beacon_count) 0)
-          ∙ accepted_back rate_application st B l (omega arith) h.sequence_fits Rate st.mark _ s sum (zeros beacon_count) 0,
-      the_records P Rate z k,
+    let k = kinds.kind_back rate_application st B l (omega arith) (Some Rate) kinds.rate_kind in (
+      read_accepted P (Some Rate) z k
+          ∙ (λ i. accepted (Some Rate) P (fields.mark_back rate_application st B l i) (rates i) (settings i) (table-sum i) (zeros beacon_count) 0)
+          ∙ accepted_back rate_application st B l (omega arith) h.sequence_fits (Some Rate) st.mark _ s sum (zeros beacon_count) 0,
+      the_records P (Some Rate) z k,
     )
 
 pub sample_back : SampleBack
@@ -75,11 +76,11 @@ sample_back st records h v =
     let l = kinds.sample_length st h records v in
     let ha = kinds.application_fits st h records v in
     let z = kinds.sample_number st h records v in
-    let k = kinds.kind_back a st B l ha Sample (kinds.sample_kind st.mark h.mark_fits) in (
-      read_accepted P Sample z k
-          ∙ ap (accepted Sample P 0 (zeros rate_count) no_settings 0 (zeros beacon_count)) (fields.mark_back a st B l)
-          ∙ accepted_back a st B l ha h.sequence_fits Sample 0 (zeros rate_count) no_settings 0 (zeros beacon_count) st.mark,
-      the_records P Sample z k ∙ fields.body_part a st B l,
+    let k = kinds.kind_back a st B l ha (Some Sample) (kinds.sample_kind st.mark h.mark_fits) in (
+      read_accepted P (Some Sample) z k
+          ∙ ap (accepted (Some Sample) P 0 (zeros rate_count) no_settings 0 (zeros beacon_count)) (fields.mark_back a st B l)
+          ∙ accepted_back a st B l ha h.sequence_fits (Some Sample) 0 (zeros rate_count) no_settings 0 (zeros beacon_count) st.mark,
+      the_records P (Some Sample) z k ∙ fields.body_part a st B l,
     )
 
 pub beacon_back : BeaconBack
@@ -90,11 +91,11 @@ beacon_back st beacons h v =
     let l = kinds.beacon_length st h beacons v in
     let z = kinds.beacon_number st h beacons v in
     let rates = (kinds.beacon_codes st h beacons v).1 in
-    let k = kinds.kind_back beacon_application st B l (omega arith) Beacon kinds.beacon_kind in (
-      read_accepted P Beacon z k
-          ∙ (λ i. accepted Beacon P (fields.mark_back beacon_application st B l i) (zeros rate_count) no_settings 0 (rates i) 0)
-          ∙ accepted_back beacon_application st B l (omega arith) h.sequence_fits Beacon st.mark (zeros rate_count) no_settings 0 _ 0,
-      the_records P Beacon z k,
+    let k = kinds.kind_back beacon_application st B l (omega arith) (Some Beacon) kinds.beacon_kind in (
+      read_accepted P (Some Beacon) z k
+          ∙ (λ i. accepted (Some Beacon) P (fields.mark_back beacon_application st B l i) (zeros rate_count) no_settings 0 (rates i) 0)
+          ∙ accepted_back beacon_application st B l (omega arith) h.sequence_fits (Some Beacon) st.mark (zeros rate_count) no_settings 0 _ 0,
+      the_records P (Some Beacon) z k,
     )
 
 -- a stamp without a mark fits the stamps of both editions
@@ -113,7 +114,7 @@ archive_rate_back st totals boxes s sum h v =
     let e : st.mark ≡ 0 = omega (arith, h.mark_fits) in
     ap (λ (m : ℕ). read_of (packet_of rate_application st (rate_body m totals boxes s sum))) (sym e)
     ∙ (rate_back st totals boxes s sum (unmarked_fits st h) v).0
-    ∙ ap (λ (m : ℕ). stamp_read Rate rate_application st m (least_counts m (totals ++ boxes)) s sum (zeros beacon_count) 0) e
+    ∙ ap (λ (m : ℕ). stamp_read (Some Rate) rate_application st m (least_counts m (totals ++ boxes)) s sum (zeros beacon_count) 0) e
 
 pub archive_beacon_back : ArchiveBeaconBack
 unfolding beacon_packet codes
@@ -121,7 +122,7 @@ archive_beacon_back st beacons h v =
     let e : st.mark ≡ 0 = omega (arith, h.mark_fits) in
     ap (λ (m : ℕ). read_of (packet_of beacon_application st (beacon_body m beacons))) (sym e)
     ∙ (beacon_back st beacons (unmarked_fits st h) v).0
-    ∙ ap (λ (m : ℕ). stamp_read Beacon beacon_application st m (zeros rate_count) no_settings 0 (least_counts m beacons) 0) e
+    ∙ ap (λ (m : ℕ). stamp_read (Some Beacon) beacon_application st m (zeros rate_count) no_settings 0 (least_counts m beacons) 0) e
 
 pub archive_codes : ArchiveCodes
 unfolding codes_good rates_of

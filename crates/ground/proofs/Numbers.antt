@@ -1,4 +1,5 @@
 -- The reader's number is the lowest that applies, and 11 for every application number but those of the three kinds. Assumes nothing.
+use Rattle.std.specs.Prelude.{Option, Some, None}
 use mathlib.Core.Path.{◌≡◌, refl, sym, ap, subst, ◌∙◌}
 use mathlib.Core.Logic.{◌⊎◌, inl, inr}
 use mathlib.Core.Bool.{true, ◌&&◌, false≢true}
@@ -14,12 +15,11 @@ use Rattle.wire.proofs.Lists.{and_false, and_left, and_right, decide}
 use Rattle.packet.specs.Layout.{packet_bytes}
 use Rattle.packet.specs.Packet.{sample_application, application_of_sample}
 use Rattle.decode.specs.declared.kind.Kind.{Kind}
-use Rattle.decode.specs.declared.kind.Kind.TheVariants.{Rate, Sample, Beacon, None}
+use Rattle.decode.specs.declared.kind.Kind.TheVariants.{Rate, Sample, Beacon}
 use Rattle.decode.specs.Limits.{last_sample}
 use Rattle.decode.specs.Read.{application_of, kind_of, is_kind, fields_good, header_good, body_good, read_checks, read_number}
 use Rattle.decode.proofs.Reading.{passed, accepted_body, accepted_rate, accepted_beacon, rate_end, beacon_end_lem}
-use Rattle.ground.specs.declared.Packet.{Packet}
-use Rattle.ground.specs.Ground.{refused, accepted, contents}
+use Rattle.ground.specs.Ground.{Packet, refused, accepted, contents}
 use Rattle.ground.specs.Theorems.{LowestRead, TakenAs, OtherNumber, ListingNotRead}
 use Rattle.ground.proofs.Answers.{read_accepted, read_refused, no_records, number_read}
 
@@ -28,12 +28,12 @@ unfolding read_number
 lowest_read xs = rw (number_read xs) (lowest (read_checks xs) refl refl)
 
 -- by its kind
-kind_taken : (xs : List ℕ) (k : Kind) → is_kind k ≡ true → body_good k xs ≡ true
-    → (((contents k xs).kind ≡ Rate) ⊎ ((contents k xs).kind ≡ Sample) ⊎ ((contents k xs).kind ≡ Beacon)) × ((contents k xs).mark ≤ 2)
+kind_taken : (xs : List ℕ) (k : Option Kind) → is_kind k ≡ true → body_good k xs ≡ true
+    → (((contents k xs).kind ≡ Some Rate) ⊎ ((contents k xs).kind ≡ Some Sample) ⊎ ((contents k xs).kind ≡ Some Beacon)) × ((contents k xs).mark ≤ 2)
 unfolding contents accepted
-kind_taken xs Rate i g = (inl refl, leb-true _ _ (and_left _ _ (rate_end xs (accepted_rate xs g))))
-kind_taken xs Sample i g = (inr (inl refl), omega arith)
-kind_taken xs Beacon i g = (inr (inr refl), leb-true _ _ (and_left _ _ (beacon_end_lem xs (accepted_beacon xs g))))
+kind_taken xs (Some Rate) i g = (inl refl, leb-true _ _ (and_left _ _ (rate_end xs (accepted_rate xs g))))
+kind_taken xs (Some Sample) i g = (inr (inl refl), omega arith)
+kind_taken xs (Some Beacon) i g = (inr (inr refl), leb-true _ _ (and_left _ _ (beacon_end_lem xs (accepted_beacon xs g))))
 kind_taken xs None i g = absurd (false≢true i)
 
 header_kind : (xs : List ℕ) → header_good xs ≡ true → is_kind (kind_of (application_of xs)) ≡ true
@@ -43,8 +43,8 @@ header_kind xs h = and_right (eqb (length xs) packet_bytes && fields_good xs) _ 
 pub taken_as : TakenAs
 taken_as xs e =
     let z : read_number xs ≡ 0 = sym (number_read xs) ∙ e in
-    let k : Kind = kind_of (application_of xs) in
-    subst (λ (p : Packet). ((p.kind ≡ Rate) ⊎ (p.kind ≡ Sample) ⊎ (p.kind ≡ Beacon)) × (p.mark ≤ 2))
+    let k : Option Kind = kind_of (application_of xs) in
+    subst (λ (p : Packet). ((p.kind ≡ Some Rate) ⊎ (p.kind ≡ Some Sample) ⊎ (p.kind ≡ Some Beacon)) × (p.mark ≤ 2))
     (sym (read_accepted xs k z refl)) (kind_taken xs k (header_kind xs (passed xs z).0) (accepted_body xs k z refl))
 
 -- no kind has the number

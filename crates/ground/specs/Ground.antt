@@ -1,14 +1,37 @@
 -- What the ground reader answers for any bytes (document 01, "Packets" and "What is handed on"). Assumes nothing.
-use Rattle.std.specs.Prelude.{ℕ, Bool, true, false, cond, ◌&&◌, List, [], eqb, take, drop}
-use Rattle.causes.specs.Causes.{carried_out}
+use Rattle.std.specs.Prelude.{ℕ, Bool, true, false, cond, ◌&&◌, Option, Some, None, Result, Ok, Err, List, [], eqb, take, drop}
+use Rattle.causes.specs.declared.Cause.{Cause}
+use Rattle.causes.specs.Causes.{carried_out, cause_number}
 use Rattle.wire.specs.Bytes.{zeros}
 use Rattle.boxes.specs.Boxes.{beacon_count}
 use Rattle.settings.specs.declared.Settings.{Settings}
 use Rattle.decode.specs.declared.kind.Kind.{Kind}
-use Rattle.decode.specs.declared.kind.Kind.TheVariants.{Rate, Sample, Beacon, None}
+use Rattle.decode.specs.declared.kind.Kind.TheVariants.{Rate, Sample, Beacon}
 use Rattle.packet.specs.Layout.{body_at, body_bytes, rate_count}
 use Rattle.decode.specs.Read.{application_of, sequence_of, time_of, frame_of, mark_of, kind_of, rates_of, settings_of, sum_of, read_number}
-use Rattle.ground.specs.declared.Packet.{Packet}
+use Rattle.ground.specs.declared.Packet as taken
+use Rattle.ground.specs.declared.Contents as own
+use Rattle.ground.specs.declared.Contents.TheVariants as of_kind
+
+-- what the reader says of any bytes, in one record: what a packet's kind has not is zero, and of a refused packet all but the number
+pub record Packet : Type 0 where
+  -- 0, or why the packet is refused
+  pub number : ℕ
+  pub kind : Option Kind
+  pub application : ℕ
+  pub sequence : ℕ
+  pub time : ℕ
+  pub frame : ℕ
+  -- the edition of the rates' codes, byte 269 of a rate or beacon packet
+  pub mark : ℕ
+  -- the least counts of eight totals and 116 boxes
+  pub rates : List ℕ
+  pub settings : Settings
+  -- the sum of all table words modulo 2^24
+  pub sum : ℕ
+  pub beacons : List ℕ
+  -- which of the sample packets
+  pub p : ℕ
 
 -- settings of zeros
 abbrev pub no_settings : Settings
@@ -33,7 +56,7 @@ refused n =
     }
 
 -- an accepted one: "The reader returns kind, header and frame number", with what its kind has
-unfoldable pub accepted : Kind → List ℕ → (mark : ℕ) → List ℕ → Settings → ℕ → List ℕ → ℕ → Packet
+unfoldable pub accepted : Option Kind → List ℕ → (mark : ℕ) → List ℕ → Settings → ℕ → List ℕ → ℕ → Packet
 accepted kind xs mark rates settings sum beacons p =
     record {
       number = carried_out;
@@ -52,21 +75,76 @@ accepted kind xs mark rates settings sum beacons p =
 
 -- ".. with a rate packet's rates, settings and table sum, a beacon's rates, or p", and the mark of rates (document 02, Point 5);
 -- what a kind has not is zero
-unfoldable pub contents : Kind → List ℕ → Packet
-contents Rate xs = accepted Rate xs (mark_of xs) (rates_of rate_count xs) (settings_of xs) (sum_of xs) (zeros beacon_count) 0
-contents Sample xs = accepted Sample xs 0 (zeros rate_count) no_settings 0 (zeros beacon_count) (mark_of xs)
-contents Beacon xs = accepted Beacon xs (mark_of xs) (zeros rate_count) no_settings 0 (rates_of beacon_count xs) 0
+unfoldable pub contents : Option Kind → List ℕ → Packet
+contents (Some Rate) xs = accepted (Some Rate) xs (mark_of xs) (rates_of rate_count xs) (settings_of xs) (sum_of xs) (zeros beacon_count) 0
+contents (Some Sample) xs = accepted (Some Sample) xs 0 (zeros rate_count) no_settings 0 (zeros beacon_count) (mark_of xs)
+contents (Some Beacon) xs = accepted (Some Beacon) xs (mark_of xs) (zeros rate_count) no_settings 0 (rates_of beacon_count xs) 0
 contents None xs = refused carried_out
 
 -- what `read` answers
 unfoldable pub read_of : List ℕ → Packet
 read_of xs = cond (eqb (read_number xs) carried_out) (contents (kind_of (application_of xs)) xs) (refused (read_number xs))
 
+-- what `read` hands back of a packet's own bytes
+abbrev pub contents_of : Kind → List ℕ → own.Contents
+contents_of Rate xs = of_kind.Rate (mark_of xs) (rates_of rate_count xs) (settings_of xs) (sum_of xs)
+contents_of Sample xs = of_kind.Sample (mark_of xs)
+contents_of Beacon xs = of_kind.Beacon (mark_of xs) (rates_of beacon_count xs)
+
+-- what `read` hands back, as that record
+abbrev pub told_of : taken.Packet → own.Contents → Packet
+told_of h (of_kind.Rate mark rates settings sum) = record {
+  number = carried_out;
+  kind = Some Rate;
+  application = h.application;
+  sequence = h.sequence;
+  time = h.time;
+  frame = h.frame;
+  mark = mark;
+  rates = rates;
+  settings = settings;
+  sum = sum;
+  beacons = zeros beacon_count;
+  p = 0;
+}
+told_of h (of_kind.Sample p) = record {
+  number = carried_out;
+  kind = Some Sample;
+  application = h.application;
+  sequence = h.sequence;
+  time = h.time;
+  frame = h.frame;
+  mark = 0;
+  rates = zeros rate_count;
+  settings = no_settings;
+  sum = 0;
+  beacons = zeros beacon_count;
+  p = p;
+}
+told_of h (of_kind.Beacon mark beacons) = record {
+  number = carried_out;
+  kind = Some Beacon;
+  application = h.application;
+  sequence = h.sequence;
+  time = h.time;
+  frame = h.frame;
+  mark = mark;
+  rates = zeros rate_count;
+  settings = no_settings;
+  sum = 0;
+  beacons = beacons;
+  p = 0;
+}
+
+abbrev pub told : Result taken.Packet Cause → Packet
+told (Ok packet) = told_of packet packet.contents
+told (Err cause) = refused (cause_number cause)
+
 -- whether the kind is that of samples
-abbrev pub is_sample : Kind → Bool
-is_sample Rate = false
-is_sample Sample = true
-is_sample Beacon = false
+abbrev pub is_sample : Option Kind → Bool
+is_sample (Some Rate) = false
+is_sample (Some Sample) = true
+is_sample (Some Beacon) = false
 is_sample None = false
 
 -- an accepted sample packet

@@ -1,6 +1,6 @@
 -- What is proved of the packets and their reader together. `read_of` and `records_of` are what the reader's two calls answer,
 -- `rate_packet`, `sample_packet` and `beacon_packet` what the three writers write, by their contracts. Assumes nothing.
-use Rattle.std.specs.Prelude.{ℕ, ◌≤◌, ◌≡◌, ◌⊎◌, true, List, [], ◌++◌, map, length}
+use Rattle.std.specs.Prelude.{ℕ, ◌≤◌, ◌≡◌, ◌⊎◌, true, Option, Some, List, [], ◌++◌, map, length}
 use Rattle.causes.specs.Causes.{carried_out, no_header, packet_sum}
 use Rattle.causes.specs.Checks.{Lowest}
 use Rattle.wire.specs.Bytes.{be16, words, zeros}
@@ -20,8 +20,7 @@ use Rattle.decode.specs.Read.{application_of, mark_of, code_at, rates_of, codes_
 use Rattle.decode.specs.Damage.{OneByteOff}
 use Rattle.decode.specs.Limits.{last_sample, last_mark}
 use Rattle.decode.specs.Ranges.{StampFits, RateValues, SampleValues, BeaconValues}
-use Rattle.ground.specs.declared.Packet.{Packet}
-use Rattle.ground.specs.Ground.{no_settings, refused, read_of, records_of}
+use Rattle.ground.specs.Ground.{Packet, no_settings, refused, read_of, records_of}
 
 -- ---- reading back
 
@@ -30,7 +29,7 @@ abbrev pub least_counts : (mark : ℕ) → List ℕ → List ℕ
 least_counts mark counts = map (λ n. least_by mark (code_by mark n)) counts
 
 -- every packet gives back its kind and application number and what it was stamped with, beside what its kind has
-abbrev pub stamp_read : Kind → (application : ℕ) → Stamp → (mark : ℕ) (rates : List ℕ) → Settings → (sum : ℕ) → (beacons : List ℕ) → (p : ℕ) → Packet
+abbrev pub stamp_read : Option Kind → (application : ℕ) → Stamp → (mark : ℕ) (rates : List ℕ) → Settings → (sum : ℕ) → (beacons : List ℕ) → (p : ℕ) → Packet
 stamp_read kind application stamp mark rates s sum beacons p =
     record {
       number = carried_out;
@@ -51,7 +50,7 @@ stamp_read kind application stamp mark rates s sum beacons p =
 -- whose mark is 0, those of the first edition
 abbrev pub rate_read : Stamp → (totals boxes : List ℕ) → Settings → (sum : ℕ) → Packet
 rate_read stamp totals boxes s sum =
-    stamp_read Rate rate_application stamp stamp.mark (least_counts stamp.mark (totals ++ boxes)) s sum (zeros beacon_count) 0
+    stamp_read (Some Rate) rate_application stamp stamp.mark (least_counts stamp.mark (totals ++ boxes)) s sum (zeros beacon_count) 0
 
 abbrev pub RateBack : Type 0
 RateBack =
@@ -62,7 +61,7 @@ RateBack =
 -- a sample packet gives back p, and exactly the record bytes
 abbrev pub sample_read : Stamp → Packet
 sample_read stamp =
-    stamp_read Sample (application_of_sample stamp.mark) stamp 0 (zeros rate_count) no_settings 0 (zeros beacon_count) stamp.mark
+    stamp_read (Some Sample) (application_of_sample stamp.mark) stamp 0 (zeros rate_count) no_settings 0 (zeros beacon_count) stamp.mark
 
 abbrev pub SampleBack : Type 0
 SampleBack =
@@ -73,7 +72,7 @@ SampleBack =
 -- a beacon packet of either edition gives back its mark, and the beacons as least counts
 abbrev pub beacon_read : Stamp → (beacons : List ℕ) → Packet
 beacon_read stamp beacons =
-    stamp_read Beacon beacon_application stamp stamp.mark (zeros rate_count) no_settings 0 (least_counts stamp.mark beacons) 0
+    stamp_read (Some Beacon) beacon_application stamp stamp.mark (zeros rate_count) no_settings 0 (least_counts stamp.mark beacons) 0
 
 abbrev pub BeaconBack : Type 0
 BeaconBack =
@@ -95,13 +94,13 @@ abbrev pub ArchiveRateBack : Type 0
 ArchiveRateBack =
     (stamp : Stamp) (totals boxes : List ℕ) (s : Settings) (sum : ℕ) → StampFits 0 stamp → RateValues totals boxes s sum
     → read_of (packet_of rate_application stamp (first_codes totals ++ first_codes boxes ++ settings_bytes s sum))
-    ≡ stamp_read Rate rate_application stamp 0 (first_counts (totals ++ boxes)) s sum (zeros beacon_count) 0
+    ≡ stamp_read (Some Rate) rate_application stamp 0 (first_counts (totals ++ boxes)) s sum (zeros beacon_count) 0
 
 abbrev pub ArchiveBeaconBack : Type 0
 ArchiveBeaconBack =
     (stamp : Stamp) (beacons : List ℕ) → StampFits 0 stamp → BeaconValues beacons
     → read_of (packet_of beacon_application stamp (first_codes beacons ++ zeros beacon_unused))
-    ≡ stamp_read Beacon beacon_application stamp 0 (zeros rate_count) no_settings 0 (first_counts beacons) 0
+    ≡ stamp_read (Some Beacon) beacon_application stamp 0 (zeros rate_count) no_settings 0 (first_counts beacons) 0
 
 -- of any bytes with mark 0, whatever else they are, codes are judged and read by the first edition, as they were before the second
 abbrev pub ArchiveCodes : Type 0
@@ -146,7 +145,7 @@ LowestRead = (xs : List ℕ) → Lowest (read_checks xs) (read_of xs).number
 abbrev pub TakenAs : Type 0
 TakenAs =
     (xs : List ℕ) → (read_of xs).number ≡ carried_out
-    → (((read_of xs).kind ≡ Rate) ⊎ ((read_of xs).kind ≡ Sample) ⊎ ((read_of xs).kind ≡ Beacon)) × ((read_of xs).mark ≤ 2)
+    → (((read_of xs).kind ≡ Some Rate) ⊎ ((read_of xs).kind ≡ Some Sample) ⊎ ((read_of xs).kind ≡ Some Beacon)) × ((read_of xs).mark ≤ 2)
 
 -- 11 for any bytes with another number than "rate (application number 605), samples 606 to 616, beacon 624"
 abbrev pub OtherNumber : Type 0

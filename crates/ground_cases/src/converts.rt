@@ -1,6 +1,6 @@
 // The two converters with an output buffer that is empty, of the right length, and one off: given a rate packet of the
 // edition to be converted, and no byte.
-use crate::printing::{of_no_byte, sized};
+use causes::{Cause, call_number};
 use converter::{to_first, to_second};
 use packet::applications::RATE_APPLICATION;
 use packet::envelope::{write_header, write_sum};
@@ -15,45 +15,39 @@ fn zero_rates(mark: u8) -> [u8; PACKET_BYTES] {
     packet
 }
 
-fn second(out: &mut [u8]) {
-    let packet = zero_rates(0);
-    let n = to_second(&packet, out);
-    sized(b"second-out-", out.len(), n);
-    let m = to_second(&[], out);
-    of_no_byte(b"second-out-", out.len(), m);
+// One converter, and an output buffer.
+fn case<F: Fn(&[u8], &mut [u8]) -> Result<(), Cause>>(
+    rt: &HostRuntime,
+    name: &str,
+    packet: &[u8],
+    convert: &F,
+    out: &mut [u8],
+)
+    requires { F.IsAlwaysCallable convert.now }
+{
+    let n = call_number(&convert(packet, out));
+    let _ = println!(rt; "{name}-out-{} {n}", out.len());
+    let m = call_number(&convert(&[], out));
+    let _ = println!(rt; "{name}-out-{}-of-no-byte {m}", out.len());
 }
 
-fn first(out: &mut [u8]) {
-    let packet = zero_rates(2);
-    let n = to_first(&packet, out);
-    sized(b"first-out-", out.len(), n);
-    let m = to_first(&[], out);
-    of_no_byte(b"first-out-", out.len(), m);
+// One converter, and a rate packet of the mark that it converts from.
+fn cases<F: Fn(&[u8], &mut [u8]) -> Result<(), Cause>>(
+    rt: &HostRuntime,
+    name: &str,
+    mark: u8,
+    convert: &F,
+)
+    requires { F.IsAlwaysCallable convert.now }
+{
+    let packet = zero_rates(mark);
+    case(rt, name, &packet, convert, &mut [0u8; 0]);
+    case(rt, name, &packet, convert, &mut [0u8; 271]);
+    case(rt, name, &packet, convert, &mut [0u8; 272]);
+    case(rt, name, &packet, convert, &mut [0u8; 273]);
 }
 
-fn second_cases() {
-    let mut none = [0u8; 0];
-    let mut short = [0u8; 271];
-    let mut right = [0u8; 272];
-    let mut long = [0u8; 273];
-    second(&mut none);
-    second(&mut short);
-    second(&mut right);
-    second(&mut long);
-}
-
-fn first_cases() {
-    let mut none = [0u8; 0];
-    let mut short = [0u8; 271];
-    let mut right = [0u8; 272];
-    let mut long = [0u8; 273];
-    first(&mut none);
-    first(&mut short);
-    first(&mut right);
-    first(&mut long);
-}
-
-pub fn run() {
-    second_cases();
-    first_cases();
+pub fn run(rt: &HostRuntime) {
+    cases(rt, "second", 0, &to_second);
+    cases(rt, "first", 2, &to_first);
 }

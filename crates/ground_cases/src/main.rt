@@ -4,9 +4,8 @@
 
 mod converts;
 mod gathers;
-mod printing;
 
-fn main() {
-    gathers::run();
-    converts::run();
+fn main(rt: HostRuntime) {
+    gathers::run(&rt);
+    converts::run(&rt);
 }

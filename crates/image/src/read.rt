@@ -19,29 +19,24 @@ use settings::Settings;
 use state::State;
 use state::interval::Interval;
 use wire::bits::is_set;
-use wire::read::{u16_at, u32_at};
+use wire::number::BigEndian;
 
+// A setting by its kind. It is no `TryFrom`: a kind that is none reads as hvstep.
+#[tactic(auto, unfolding(crate::specs::Image::setting_of))]
 fn setting_of(kind: u8) -> Setting
     ensures { result ≡ setting_of kind }
 {
-    if kind == 0 {
-        return Setting::Limhi;
+    match kind {
+        0 => Setting::Limhi,
+        1 => Setting::Eonly,
+        2 => Setting::Toferror,
+        3 => Setting::Junk,
+        4 => Setting::Hv,
+        _ => Setting::Hvstep,
     }
-    if kind == 1 {
-        return Setting::Eonly;
-    }
-    if kind == 2 {
-        return Setting::Toferror;
-    }
-    if kind == 3 {
-        return Setting::Junk;
-    }
-    if kind == 4 {
-        return Setting::Hv;
-    }
-    Setting::Hvstep
 }
 
+#[tactic(auto, unfolding(crate::specs::Image::command_of))]
 fn command_of(kind: u8, value: u32, y: u8) -> Command
     ensures { result ≡ command_of kind value y }
 {
@@ -55,8 +50,9 @@ fn entry_at(image: &[u8], at: usize) -> Waiting
     requires { at + 6 ≤ length image.now }
     ensures { result ≡ entry_at image.now at }
 {
-    let c = command_of(image[at], u32_at(image, at + 1), image[at + 5]);
-    Waiting { command: c }
+    Waiting {
+        command: command_of(image[at], u32::read(image, at + 1), image[at + 5]),
+    }
 }
 
 // The 32-bit numbers from `at` on, as many as there is room for.
@@ -64,11 +60,19 @@ pub fn words_at(image: &[u8], at: usize, out: &mut [u32])
     requires { at + 4 * length out.old ≤ length image.now }
     ensures { out.new ≡ numbers_at image.now at (length out.old) }
 {
-    let mut i: usize = 0;
-    while i < out.len() {
-        out[i] = u32_at(image, at + 4 * i);
-        i += 1;
+    for (i, word) in out.iter_mut().enumerate() {
+        *word = u32::read(image, at + 4 * i);
     }
+}
+
+// The N 32-bit numbers from `at` on.
+fn array_at<const N: usize>(image: &[u8], at: usize) -> [u32; N]
+    requires { at + 4 * N ≤ length image.now }
+    ensures { result ≡ numbers_at image.now at N }
+{
+    let mut words = [0; N];
+    words_at(image, at, &mut words);
+    words
 }
 
 fn commands_at(image: &[u8], at: usize) -> [Waiting; 32]
@@ -78,23 +82,22 @@ fn commands_at(image: &[u8], at: usize) -> [Waiting; 32]
     let filler = Waiting {
         command: Command::Set(Setting::Limhi, 0),
     };
-    let mut a = [filler; 32];
-    let mut i: usize = 0;
-    while i < 32 {
-        let w = entry_at(image, at + ENTRY_BYTES * i);
-        a[i] = w;
-        i += 1;
+    let mut entries = [filler; 32];
+    for (i, entry) in entries.iter_mut().enumerate() {
+        *entry = entry_at(image, at + ENTRY_BYTES * i);
     }
-    a
+    entries
 }
 
+// The settings; other bits of the flags are ignored.
+#[tactic(auto, unfolding(crate::specs::Image::settings_in))]
 fn settings_in(image: &[u8]) -> Settings
     requires { length image.now ≡ image_bytes }
     ensures { result ≡ settings_in image.now }
 {
     let flags = image[FLAGS_AT];
     Settings {
-        limhi: u16_at(image, LIMHI_AT),
+        limhi: u16::read(image, LIMHI_AT),
         eonly: is_set(flags, EONLY_FLAG),
         toferror: is_set(flags, TOFERROR_FLAG),
         junk: is_set(flags, JUNK_FLAG),
@@ -103,61 +106,54 @@ fn settings_in(image: &[u8]) -> Settings
     }
 }
 
+#[tactic(auto, unfolding(crate::specs::Image::interval_in))]
 fn interval_in(image: &[u8]) -> Interval
     requires { length image.now ≡ image_bytes }
     ensures { result ≡ interval_in image.now }
 {
-    let mut boxes = [0u32; 116];
-    words_at(image, BOXES_AT, &mut boxes);
-    let mut beacons = [0u32; 12];
-    words_at(image, BEACONS_AT, &mut beacons);
-    let mut totals = [0u32; 8];
-    words_at(image, TOTALS_AT, &mut totals);
-    let counts = Counts { boxes, beacons };
-    let samples = SlotUse {
-        used: u32_at(image, USED_AT) as usize,
-        replaced: u32_at(image, REPLACED_AT) as usize,
-    };
     Interval {
-        taken: u32_at(image, TAKEN_AT),
-        counts: counts,
-        samples: samples,
-        readings: u32_at(image, READINGS_AT),
-        totals,
+        taken: u32::read(image, TAKEN_AT),
+        counts: Counts {
+            boxes: array_at(image, BOXES_AT),
+            beacons: array_at(image, BEACONS_AT),
+        },
+        samples: SlotUse {
+            used: u32::read(image, USED_AT) as usize,
+            replaced: u32::read(image, REPLACED_AT) as usize,
+        },
+        readings: u32::read(image, READINGS_AT),
+        totals: array_at(image, TOTALS_AT),
     }
 }
 
+#[tactic(auto, unfolding(crate::specs::Image::command_list_in))]
 fn command_list_in(image: &[u8]) -> CommandList
     requires { length image.now ≡ image_bytes }
     ensures { result ≡ command_list_in image.now }
 {
-    let waiting = commands_at(image, ENTRIES_AT);
     CommandList {
-        accepted: u32_at(image, ACCEPTED_AT) as usize,
-        waiting,
-        waiters: u32_at(image, WAITERS_AT) as usize,
+        accepted: u32::read(image, ACCEPTED_AT) as usize,
+        waiting: commands_at(image, ENTRIES_AT),
+        waiters: u32::read(image, WAITERS_AT) as usize,
     }
 }
 
 // The state that an image is. An entry that is no command reads as some command: `judge::is_state` tells them apart.
 // The capacity is not among the bytes.
+#[tactic(auto, unfolding(crate::specs::Image::state_of))]
 pub fn decode(image: &[u8]) -> State
     requires { length image.now ≡ image_bytes }
     ensures { result ≡ state_of image.now }
 {
-    let interval = interval_in(image);
-    let settings = settings_in(image);
-    let commands = command_list_in(image);
-    let staging = Addresses {
-        next: u32_at(image, NEXT_AT),
-        reach: u32_at(image, REACH_AT),
-    };
     State {
-        frame: u16_at(image, FRAME_AT),
-        interval: interval,
-        settings: settings,
-        commands: commands,
-        staging: staging,
+        frame: u16::read(image, FRAME_AT),
+        interval: interval_in(image),
+        settings: settings_in(image),
+        commands: command_list_in(image),
+        staging: Addresses {
+            next: u32::read(image, NEXT_AT),
+            reach: u32::read(image, REACH_AT),
+        },
         capacity: Capacity::Slots704,
     }
 }

@@ -1,5 +1,6 @@
 // The number that each call of a fresh processor answers.
 use capacity::Capacity;
+use causes::call_number;
 use sort::event::Event;
 use state::State;
 
@@ -35,25 +36,21 @@ pub fn event(tables: &[u8], slots: &mut [u32], t: u16) -> u8 {
         error: false,
         stop: true,
     };
-    let answer = processor::event::event(fresh(), tables, slots, e);
-    answer.number
+    call_number(&processor::event::event(&mut fresh(), tables, slots, e))
 }
 
 pub fn line(line: &[u8], staging: &[u8], bitmap: &[u8], echo: &mut [u8]) -> u8 {
-    let answer = processor::line::line(fresh(), line, staging, bitmap, echo);
-    answer.number
+    call_number(&processor::line::line(&mut fresh(), line, staging, bitmap, echo))
 }
 
 pub fn package(bytes: &[u8], staging: &mut [u8], bitmap: &mut [u8], echo: &mut [u8]) -> u8 {
-    let answer = processor::load_package::package(fresh(), bytes, staging, bitmap, echo);
-    answer.number
+    call_number(&processor::load_package::package(&mut fresh(), bytes, staging, bitmap, echo))
 }
 
 pub fn close(tables: &mut [u8], staging: &[u8], slots: &mut [u32], out: &mut [u8]) -> u8 {
-    let answer = processor::close::close(fresh(), 60, tables, staging, slots, out);
-    answer.number
+    call_number(&processor::close::close(&mut fresh(), 60, tables, staging, slots, out))
 }
 
 pub fn listing(i: u16, tables: &[u8], out: &mut [u8]) -> u8 {
-    processor::listing::listing(fresh(), i, 60, tables, out)
+    call_number(&processor::listing::listing(&fresh(), i, 60, tables, out))
 }

@@ -2,12 +2,11 @@
 // state. Then calls that more than one cause refuses.
 use crate::calls;
 use crate::calls::{PACKET_BYTES, TABLE_BYTES};
-use crate::printing::{one, sized};
 
-fn listing_tables(tables: &[u8]) {
+fn listing_tables(rt: &HostRuntime, tables: &[u8]) {
     let mut out = [0u8; PACKET_BYTES];
     let n = calls::listing(0, tables, &mut out);
-    sized(b"listing-tables-", tables.len(), n);
+    let _ = println!(rt; "listing-tables-{} {n}", tables.len());
 }
 
 fn listing_with(i: u16, out: &mut [u8]) -> u8 {
@@ -15,52 +14,52 @@ fn listing_with(i: u16, out: &mut [u8]) -> u8 {
     calls::listing(i, &tables, out)
 }
 
-fn listing_out(out: &mut [u8]) {
+fn listing_out(rt: &HostRuntime, out: &mut [u8]) {
     let n = listing_with(0, out);
-    sized(b"listing-out-", out.len(), n);
+    let _ = println!(rt; "listing-out-{} {n}", out.len());
 }
 
-fn table_cases() {
+fn table_cases(rt: &HostRuntime) {
     let none = [0u8; 0];
     let short = [0u8; 62984];
     let long = [0u8; 62986];
-    listing_tables(&none);
-    listing_tables(&short);
-    listing_tables(&long);
+    listing_tables(rt, &none);
+    listing_tables(rt, &short);
+    listing_tables(rt, &long);
 }
 
-fn out_cases() {
+fn out_cases(rt: &HostRuntime) {
     let mut none = [0u8; 0];
     let mut short = [0u8; 271];
     let mut long = [0u8; 273];
-    listing_out(&mut none);
-    listing_out(&mut short);
-    listing_out(&mut long);
+    listing_out(rt, &mut none);
+    listing_out(rt, &mut short);
+    listing_out(rt, &mut long);
 }
 
-pub fn lengths() {
-    table_cases();
-    out_cases();
+pub fn lengths(rt: &HostRuntime) {
+    table_cases(rt);
+    out_cases(rt);
 }
 
-fn short_out_cases() {
+fn short_out_cases(rt: &HostRuntime) {
     let mut short = [0u8; 271];
-    one(b"listing-249-out-271", listing_with(249, &mut short));
-    one(b"listing-250-out-271", listing_with(250, &mut short));
-    one(b"listing-256-out-271", listing_with(256, &mut short));
-    one(b"listing-65535-out-271", listing_with(65535, &mut short));
+    let _ = println!(rt; "listing-249-out-271 {}", listing_with(249, &mut short));
+    let _ = println!(rt; "listing-250-out-271 {}", listing_with(250, &mut short));
+    let _ = println!(rt; "listing-256-out-271 {}", listing_with(256, &mut short));
+    let _ = println!(rt; "listing-65535-out-271 {}", listing_with(65535, &mut short));
 }
 
-fn right_out_cases() {
+fn right_out_cases(rt: &HostRuntime) {
     let mut out = [0u8; PACKET_BYTES];
-    one(b"listing-249", listing_with(249, &mut out));
-    one(b"listing-250", listing_with(250, &mut out));
-    one(b"listing-256", listing_with(256, &mut out));
-    one(b"listing-65535", listing_with(65535, &mut out));
+    let _ = println!(rt; "listing-249 {}", listing_with(249, &mut out));
+    let _ = println!(rt; "listing-250 {}", listing_with(250, &mut out));
+    let _ = println!(rt; "listing-256 {}", listing_with(256, &mut out));
+    let _ = println!(rt; "listing-65535 {}", listing_with(65535, &mut out));
 }
 
 // The lowest number that applies is given: 1 before any other.
-pub fn lowest() {
-    short_out_cases();
-    right_out_cases();
+pub fn lowest(rt: &HostRuntime) {
+    short_out_cases(rt);
+    right_out_cases(rt);
 }

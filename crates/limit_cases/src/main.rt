@@ -5,8 +5,7 @@
 mod calls;
 mod lengths;
 mod listings;
-mod printing;
 
-fn main() {
-    lengths::run();
+fn main(rt: HostRuntime) {
+    lengths::run(&rt);
 }

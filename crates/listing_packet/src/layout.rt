@@ -27,10 +27,5 @@ pub fn piece_size(i: usize) -> usize
     requires { i < listing_packets }
     ensures { (result ≡ piece_size i) × (result ≤ piece_bytes) }
 {
-    let left = tables::TABLE_BYTES - PIECE_BYTES * i;
-    if left < PIECE_BYTES {
-        left
-    } else {
-        PIECE_BYTES
-    }
+    PIECE_BYTES.min(tables::TABLE_BYTES - PIECE_BYTES * i)
 }

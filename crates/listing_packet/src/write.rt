@@ -9,7 +9,8 @@ use crate::layout;
 use crate::layout::piece_size;
 use packet::envelope::{write_header, write_sum};
 use packet::layout::{BODY_AT, SEQUENCE_COUNTS, SUM_AT};
-use wire::write::{put_bytes, put_u16, put_u24, put_zeros};
+use wire::number::BigEndian;
+use wire::write::{put_bytes, put_u24, put_zeros};
 
 // Three zeros, the frame and the address of the packet's first word.
 fn write_place(part: &mut [u8], frame: u16, i: usize)
@@ -17,7 +18,7 @@ fn write_place(part: &mut [u8], frame: u16, i: usize)
     ensures { part.new ≡ put part.old body_at (place_bytes frame i) }
 {
     put_zeros(part, BODY_AT, layout::FRAME_AT);
-    put_u16(part, layout::FRAME_AT, frame);
+    frame.put(part, layout::FRAME_AT);
     let address = tables::FIRST + layout::PACKET_WORDS * i;
     put_u24(part, layout::ADDRESS_AT, address as u32);
 }

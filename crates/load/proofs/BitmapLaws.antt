@@ -1,14 +1,18 @@
 -- The bitmap tells, after a package, its own bytes by its sum and all others as before. Assumes nothing.
 use mathlib.Core.Path.{◌≡◌, refl, sym, ap, ◌∙◌}
 use mathlib.Core.Bool.{Bool, true, false, ◌&&◌, not, cond}
-use mathlib.Core.List.{List}
+use mathlib.Core.List.{List, [], ◌∷◌, ◌++◌}
 use Prim.Native.Nat.{ℕ, zero, suc, ◌+◌, ◌*◌, ◌/◌, ◌%◌, ◌≤◌, ◌<◌}
 use native.Mathlib.Omega.{arith}
+use native.Mathlib.Numerals.{add-one}
 use borrow.Author.Tests.{eqb-true, eqb-false, eq-eqb, ne_eqb, le-leb, lt-ltb, le-ltb, leb-true, ltb-true, ltb-false}
 use lib.Dec.{eqb, leb, ltb}
-use lib.ListN.{length, get_or, set, length-set}
+use lib.ListN.{length, get_or, set, length-set, replicate, length-replicate, replicate-append-replicate}
 use lib.Seq.{get_or-set_same, get_or-set_other, set-get_or, set-set}
 use Rattle.wire.specs.Bits.{bit_at, with_bit}
+use Rattle.wire.specs.Bytes.{put}
+use Rattle.wire.specs.Lists.{EachBelow}
+use Rattle.wire.proofs.Bytes.{put_nil, put_put, put_sets, put_behind, length_put}
 use Rattle.wire.proofs.BitLaws.{bit_with}
 use Rattle.wire.proofs.Lists.{decide}
 use Rattle.wire.specs.Pieces.{each}
@@ -127,6 +131,26 @@ pub then_bitmap : {m₁ m₂ : List ℕ} (bitmap : List ℕ) (next a b from n : 
     → m₂ ≡ bitmap_after m₁ from b bad → from ≡ next + a → a + b ≡ n → m₂ ≡ bitmap_after bitmap next n bad
 then_bitmap bitmap next a b from n bad e f q t =
     f ∙ (λ k. bitmap_after (e k) (q k) b bad) ∙ bitmap_then bitmap next a b bad ∙ ap (λ (m : ℕ). bitmap_after bitmap next m bad) t
+
+-- whole bytes, all filled alike
+pub filled_bits : (bitmap : List ℕ) (first many : ℕ) (bad : Bool) → EachBelow 256 bitmap → first + many ≤ length bitmap
+    → put bitmap first (replicate many (cond bad 255 0)) ≡ bitmap_after bitmap (8 * first) (8 * many) bad
+unfolding bitmap_after
+filled_bits bitmap first zero bad b h = sym (put_nil bitmap first)
+filled_bits bitmap first (suc many) bad b h =
+    let v : ℕ = cond bad 255 0 in
+    let k : ℕ = first + many in
+    let m : List ℕ = put bitmap first (replicate many v) in
+    let lr : length (replicate many v) ≡ many = length-replicate {A = ℕ} many v in
+    let lm : length m ≡ length bitmap = length_put (replicate many v) bitmap first (omega arith) in
+    let g : get_or m k 0 ≡ get_or bitmap k 0 = put_behind (replicate many v) bitmap first k (omega arith) (omega arith) in
+    let e : replicate (suc many) v ≡ replicate many v ++ (v ∷ []) =
+    rw add-one at (sym (replicate-append-replicate many 1 v)) in
+    ap (put bitmap first) e
+    ∙ sym (put_put bitmap first (replicate many v) (v ∷ []) k (omega arith) (omega arith))
+    ∙ sym (put_sets (v ∷ []) m k (omega arith))
+    ∙ then_bitmap bitmap (8 * first) (8 * many) 8 (8 * k) (8 * suc many) bad (filled_bits bitmap first many bad b (omega arith))
+    (eight_bits m k bad (omega arith) (omega (arith, g, b k))) (omega arith) (omega arith)
 
 -- none is bad, by whole bytes
 pub none_byte : (bitmap : List ℕ) (i : ℕ) {good r : Bool} → good ≡ none_bad bitmap (8 * i)

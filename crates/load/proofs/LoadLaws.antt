@@ -1,6 +1,6 @@
 -- Laws of loads. Assumes nothing.
-use mathlib.Core.Path.{◌≡◌, refl, sym, ap, ◌∙◌}
-use mathlib.Core.Bool.{true, ◌&&◌}
+use mathlib.Core.Path.{◌≡◌, refl, sym, ap, subst, ◌∙◌}
+use mathlib.Core.Bool.{true, false, ◌&&◌}
 use mathlib.Core.List.{List, [], ◌∷◌, ◌++◌, append-nil}
 use Prim.Native.Nat.{ℕ, zero, suc, ◌+◌, ◌-◌, ◌*◌, ◌/◌, ◌%◌, ◌≤◌, ◌<◌}
 use native.Mathlib.Omega.{arith}
@@ -8,7 +8,7 @@ use native.Mathlib.Numerals.{add-one}
 use lib.Dec.{leb}
 use lib.ListN.{length, take, drop, get_or, length-append, length-take, length-replicate}
 use lib.Seq.{length-take-le, take-add, drop-cons}
-use borrow.Author.Tests.{leb-true}
+use borrow.Author.Tests.{leb-true, lt-leb}
 use Rattle.wire.specs.Bytes.{zeros, put, be24}
 use Rattle.wire.specs.Pieces.{padded}
 use Rattle.wire.proofs.Bytes.{length_put, length_part, then}
@@ -16,15 +16,32 @@ use Rattle.wire.proofs.Lists.{and_left, and_right}
 use Rattle.wire.proofs.Pieces.{length_padded, padded_is}
 use Rattle.tables.specs.Tables.{first, end, table_bytes, byte_of}
 use Rattle.load.specs.Staging.{staging_bytes}
-use Rattle.load.specs.Load.{word_width, load_words, load_lawful, packed_word, packed_words, packed, loaded}
+use Rattle.std.specs.Prelude.{Some, None}
+use Rattle.std.proofs.lemmas.Option.{same_Some}
+use Rattle.load.specs.declared.words.Packing.{Packing}
+use Rattle.load.specs.declared.words.Packing.TheVariants.{ThreeBytes, OneByte, TwoBytes}
+use Rattle.load.specs.Load.{packing_of, packing_number, word_width, load_words, load_lawful, packed_word, packed_words, packed, loaded}
+
+-- ---- ways to pack
+
+pub packing_none : (y : ℕ) → packing_of y ≡ None → leb y 2 ≡ false
+packing_none zero h = absurd (cc)
+packing_none (suc zero) h = absurd (cc)
+packing_none (suc (suc zero)) h = absurd (cc)
+packing_none (suc (suc (suc y))) h = lt-leb _ _ (omega arith)
+
+pub packing_is : (y : ℕ) (p : Packing) → packing_of y ≡ Some p → y ≡ packing_number p
+packing_is zero p h = rw (sym (same_Some _ _ h))
+packing_is (suc zero) p h = rw (sym (same_Some _ _ h))
+packing_is (suc (suc zero)) p h = rw (sym (same_Some _ _ h))
+packing_is (suc (suc (suc y))) p h = absurd (cc)
+
+pub packing_small : (p : Packing) → leb (packing_number p) 2 ≡ true
+packing_small ThreeBytes = refl
+packing_small OneByte = refl
+packing_small TwoBytes = refl
 
 -- ---- how many words
-
--- the third way to pack
-pub width_two : (y : ℕ) → (y ≡ 0 → ⊥) → (y ≡ 1 → ⊥) → word_width y ≡ 2
-width_two zero h g = absurd (h refl)
-width_two (suc zero) h g = absurd (g refl)
-width_two (suc (suc y)) h g = refl
 
 pub width_small : (y : ℕ) → word_width y ≤ 3
 width_small zero = omega arith
@@ -158,6 +175,20 @@ packed_two_bytes bytes k x y h e f g t =
     ∙ ap (λ (l : List ℕ). get_or bytes (2 * k) 0 ∷ l) (ap (λ (m : ℕ). drop m bytes) s ∙ drop-cons bytes (2 * k + 1) 0 h) in
     (λ j. a j ∷ b j ∷ c j ∷ [])
     ∙ sym (full_word 2 bytes k (omega arith) ∙ ap (λ (l : List ℕ). zeros 1 ++ take 2 l) d)
+
+-- a word of so many bytes is its number
+pub word_one : (w : ℕ) (bytes : List ℕ) (k v : ℕ) → w ≡ 1 → w * k + w ≤ length bytes → v ≡ get_or bytes (w * k) 0 → v < 256
+    → be24 v ≡ packed_word w bytes k
+word_one w bytes k v e =
+    let P : ℕ → Type 0 = λ w. w * k + w ≤ length bytes → v ≡ get_or bytes (w * k) 0 → v < 256 → be24 v ≡ packed_word w bytes k in
+    subst P (sym e) (λ h f g. packed_one_byte bytes k v (omega arith) (f ∙ ap (λ (i : ℕ). get_or bytes i 0) (omega arith)) g)
+
+pub word_two : (w : ℕ) (bytes : List ℕ) (k x y : ℕ) → w ≡ 2 → w * k + w ≤ length bytes → x ≡ get_or bytes (w * k) 0
+    → y ≡ get_or bytes (w * k + 1) 0 → x < 256 → y < 256 → be24 (256 * x + y) ≡ packed_word w bytes k
+word_two w bytes k x y e =
+    let P : ℕ → Type 0 = λ w. w * k + w ≤ length bytes → x ≡ get_or bytes (w * k) 0 → y ≡ get_or bytes (w * k + 1) 0 → x < 256 → y < 256
+    → be24 (256 * x + y) ≡ packed_word w bytes k in
+    subst P (sym e) (λ h f g s t. packed_two_bytes bytes k x y (omega arith) f g s t)
 
 -- the words that n bytes fill: at most one more takes the rest
 pub words_whole : (y n : ℕ) → (n / word_width y ≤ load_words y n) × (load_words y n ≤ n / word_width y + 1) × (word_width y * (n / word_width y) ≤ n)

@@ -39,6 +39,12 @@ placeable_formed p next h = and_left (formed p) (fits p next) h
 pub placeable_fits : (p : List ℕ) (next : ℕ) → placeable p next ≡ true → next + payload_bytes p ≤ staging_bytes
 placeable_fits p next h = leb-true (next + payload_bytes p) staging_bytes (and_right (formed p) (fits p next) h)
 
+pub placeable_within : (p : List ℕ) (next : ℕ) → placeable p next ≡ true → fits p next ≡ true
+placeable_within p next h = and_right (formed p) (fits p next) h
+
+pub fits_room : (p : List ℕ) (next : ℕ) → fits p next ≡ true → next + payload_bytes p ≤ staging_bytes
+fits_room p next h = leb-true (next + payload_bytes p) staging_bytes h
+
 -- a package answered neither 8 nor 9 is staged
 number_by_lem : (a b c : Bool) (k : ℕ) → cond a (cond b (cond c carried_out package_sum) past_staging) package_form ≡ k
     → (k ≡ package_form → ⊥) → (k ≡ past_staging → ⊥) → (a && b) ≡ true

@@ -1,8 +1,10 @@
 -- Loads (document 01, "Commands and loads"). Assumes nothing.
-use Rattle.std.specs.Prelude.{ℕ, zero, suc, ◌+◌, ◌-◌, ◌*◌, ◌/◌, Bool, ◌&&◌, List, [], ◌++◌, leb, length, take, drop}
+use Rattle.std.specs.Prelude.{ℕ, zero, suc, Option, Some, None, ◌+◌, ◌-◌, ◌*◌, ◌/◌, Bool, ◌&&◌, List, [], ◌++◌, leb, length, take, drop}
 use Rattle.wire.specs.Bytes.{zeros, put}
 use Rattle.wire.specs.Pieces.{padded}
 use Rattle.tables.specs.Tables.{first, end, byte_of}
+use Rattle.load.specs.declared.words.Packing.{Packing}
+use Rattle.load.specs.declared.words.Packing.TheVariants.{ThreeBytes, OneByte, TwoBytes}
 
 -- how many bytes go into a word: "y 0 three bytes a word, y 1 one (two zeros before), y 2 two (a zero before)". No load has
 -- a y above 2
@@ -10,6 +12,18 @@ abbrev pub word_width : ℕ → ℕ
 word_width zero = 3
 word_width (suc zero) = 1
 word_width (suc (suc y)) = 2
+
+-- the ways to pack, and the y of each
+abbrev pub packing_of : ℕ → Option Packing
+packing_of zero = Some ThreeBytes
+packing_of (suc zero) = Some OneByte
+packing_of (suc (suc zero)) = Some TwoBytes
+packing_of (suc (suc (suc y))) = None
+
+abbrev pub packing_number : Packing → ℕ
+packing_number ThreeBytes = 0
+packing_number OneByte = 1
+packing_number TwoBytes = 2
 
 -- how many words n bytes make, "a short last word" counted: "so y 2 makes half as many words, rounded up"
 abbrev pub load_words : ℕ → ℕ → ℕ

@@ -30,10 +30,8 @@ fn put_each(bitmap: &mut [u8], next: usize, n: usize, bad: bool)
     requires { (length bitmap.old ≡ bitmap_bytes) × (next + n ≤ staging_bytes) }
     ensures { bitmap.new ≡ bitmap_after bitmap.old next n bad }
 {
-    let mut i: usize = 0;
-    while i < n {
+    for i in 0..n {
         put_bit(bitmap, next + i, bad);
-        i += 1;
     }
 }
 
@@ -44,24 +42,12 @@ fn eight_bits(bad: bool) -> u8
     if bad { 255 } else { 0 }
 }
 
-// The eight bits of byte k are set or cleared.
-fn put_eight(bitmap: &mut [u8], k: usize, bad: bool)
-    requires { k < length bitmap.old }
-    ensures { bitmap.new ≡ bitmap_after bitmap.old (8 * k) 8 bad }
-{
-    bitmap[k] = eight_bits(bad);
-}
-
 // The bits of `many` whole bytes from byte `first` on.
 fn put_whole(bitmap: &mut [u8], first: usize, many: usize, bad: bool)
     requires { (length bitmap.old ≡ bitmap_bytes) × (first + many ≤ bitmap_bytes) }
     ensures { bitmap.new ≡ bitmap_after bitmap.old (8 * first) (8 * many) bad }
 {
-    let mut i: usize = 0;
-    while i < many {
-        put_eight(bitmap, first + i, bad);
-        i += 1;
-    }
+    bitmap[first..first + many].fill(eight_bits(bad));
 }
 
 // The bits of n staged bytes from `next` on are set or cleared: whole bytes at once, and those before and behind one by one.
@@ -94,10 +80,8 @@ fn none_whole(bitmap: &[u8], n: usize) -> bool
     ensures { result ≡ none_bad bitmap.now (8 * n) }
 {
     let mut good = true;
-    let mut i: usize = 0;
-    while i < n {
+    for i in 0..n {
         good = good & none_of_eight(bitmap[i]);
-        i += 1;
     }
     good
 }
@@ -109,10 +93,8 @@ pub fn none_bad(bitmap: &[u8], reach: usize) -> bool
 {
     let whole = reach / 8;
     let mut good = none_whole(bitmap, whole);
-    let mut i = 8 * whole;
-    while i < reach {
+    for i in 8 * whole..reach {
         good = good & !is_bad(bitmap, i);
-        i += 1;
     }
     good
 }

@@ -2,6 +2,7 @@
 #![tactic(auto)]
 
 pub mod bitmap;
+pub mod package;
 pub mod run;
 pub mod staging;
 pub mod words;

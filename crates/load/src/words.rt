@@ -1,40 +1,56 @@
 // How many words the staged bytes make, and whether they stay within the tables.
 ghost use Rattle.std.specs.Prelude.{◌≡◌, ◌≤◌};
-ghost use Rattle.load.specs.Load.{word_width, load_words, load_lawful};
+ghost use Rattle.load.specs.Load.{word_width, load_words, load_lawful, packing_of, packing_number};
 
-// The ways to pack: three bytes a word, one, or two.
-pub const THREE_BYTES: u8 = 0;
-
-pub const ONE_BYTE: u8 = 1;
-
-pub const TWO_BYTES: u8 = 2;
-
-// How many bytes go into a word.
-pub fn word_width(y: u8) -> usize
-    ensures { (result ≡ word_width y) × (1 ≤ result) × (result ≤ 3) }
-{
-    if y == THREE_BYTES {
-        return 3;
-    }
-    if y == ONE_BYTE {
-        return 1;
-    }
-    2
+// How staged bytes make words, by a load's y: three to a word, one, or two.
+#[derive(Clone, Copy, PartialEq, Eq)]
+pub enum Packing {
+    ThreeBytes,
+    OneByte,
+    TwoBytes,
 }
 
-// How many words the bytes make, a short last one counted.
-pub fn load_words(y: u8, reach: u32) -> usize
-    ensures { result ≡ load_words y reach }
-{
-    let width = word_width(y);
-    (reach as usize + (width - 1)) / width
+impl Packing {
+    // The way to pack that y stands for.
+    pub fn of(y: u8) -> Option<Packing>
+        ensures { result ≡ packing_of y }
+    {
+        match y {
+            0 => Some(Packing::ThreeBytes),
+            1 => Some(Packing::OneByte),
+            2 => Some(Packing::TwoBytes),
+            _ => None,
+        }
+    }
+
+    // How many bytes go into a word.
+    pub fn width(self) -> usize
+        ensures { (result ≡ word_width (packing_number self)) × (1 ≤ result) × (result ≤ 3) }
+    {
+        match self {
+            Packing::ThreeBytes => 3,
+            Packing::OneByte => 1,
+            Packing::TwoBytes => 2,
+        }
+    }
+
+    // How many words the bytes make, a short last one counted.
+    pub fn words(self, reach: u32) -> usize
+        ensures { result ≡ load_words (packing_number self) reach }
+    {
+        let width = self.width();
+        (reach as usize + (width - 1)) / width
+    }
 }
 
-// Whether a load of the reach is lawful: a way to pack, at least one byte, and all words within the tables.
+// Whether a load of the reach is lawful: a way to pack, at least one byte, and all words within the tables. It takes any y, since the
+// state may hold one that stands for no way to pack.
 pub fn load_lawful(a: u32, y: u8, reach: u32) -> bool
     ensures { result ≡ load_lawful a y reach }
 {
-    let words = load_words(y, reach);
+    let Some(packing) = Packing::of(y) else {
+        return false;
+    };
     let from = a as usize;
-    (y <= TWO_BYTES) & (1 <= reach) & (tables::FIRST <= from) & (from + words <= tables::END)
+    (1 <= reach) & (tables::FIRST <= from) & (from + packing.words(reach) <= tables::END)
 }

@@ -4,8 +4,7 @@ use Rattle.wire.specs.Bytes.{zeros, at32}
 use Rattle.load.specs.Bitmap.{bitmap_bytes}
 use Rattle.echo.specs.Echo.{echo_bytes}
 use Rattle.state.specs.declared.State.{State}
-use Rattle.processor.specs.declared.Answer.{Answer}
-use Rattle.processor.specs.Answer.{answer}
+use Rattle.processor.specs.Answer.{Answer, answer}
 use Rattle.processor.specs.Close.{CloseDone, close_done}
 use Rattle.processor.specs.Line.{line_done}
 use Rattle.take_line.specs.Line.{LineDone}

@@ -1,172 +1,173 @@
 // The calls, and what is printed of their answers.
-ghost use Rattle.std.specs.Prelude.{true, ◌≡◌, ◌-◌, ◌≤◌, length};
+ghost use Rattle.std.specs.Prelude.{◌≡◌, ◌≤◌, length};
+ghost use Rattle.causes.specs.Causes.{call_number};
 ghost use Rattle.wire.specs.Bytes.{zeros, at32};
 ghost use Rattle.load.specs.Bitmap.{bitmap_bytes};
 ghost use Rattle.echo.specs.Echo.{echo_bytes};
 ghost use Rattle.processor.specs.Line.{line_done};
 ghost use Rattle.processor.specs.Close.{close_done};
-ghost use Rattle.buffered.specs.Input.{Held, waiting_in};
+ghost use Rattle.stream.specs.Kind.{kind_number};
 ghost use Rattle.stream.specs.Record.{LongAs};
 ghost use Rattle.stream.specs.Start.{out_bytes};
-ghost use Rattle.minute_calls.specs.Calls.{line_to, closed_to, kind_done};
+ghost use Rattle.minute_calls.specs.Calls.{kind_done};
 ghost use Rattle.minute_calls.specs.Events.{EventsRun, NoEvent};
 ghost use Rattle.minute_calls.specs.Line.{to_first_zero};
 
-use buffered::input::Input;
-use counts::Counts;
+use buffered::text::Text;
+use causes::Cause;
+use echo::ECHO_BYTES;
+use load::bitmap::BITMAP_BYTES;
 use output::Summary;
-use processor::Answer;
 use state::State;
-use stream::record::{Step, going_on};
+use stream::kind::Kind;
+use stream::record::{EVENT_BYTES, event, reading};
+use stream::start::OUT_BYTES;
+use wire::number::BigEndian;
 use wire::words::length_before;
 
 // A kind byte and an event.
-const EVENT_RECORD: usize = 1 + stream::record::EVENT_BYTES;
+const EVENT_RECORD: usize = 1 + EVENT_BYTES;
 
-// One command line. Its echo and its sum are not printed. No package comes to this program, so no staged byte is bad.
-fn line(state: State, staging: &[u8], body: &[u8]) -> Answer
-    ensures { result ≡ line_to (line_done state (to_first_zero body.now) staging.now (zeros bitmap_bytes) (zeros echo_bytes)) }
-{
-    let n = length_before(body, 0);
-    let bitmap = [0u8; load::bitmap::BITMAP_BYTES];
-    let mut echo = [0u8; echo::ECHO_BYTES];
-    let told = processor::line::line(state, &body[..n], staging, &bitmap, &mut echo);
-    let after = told.state;
-    Answer {
-        number: told.number,
-        state: after,
+// What the calls work on: the state, and the buffers that they are lent.
+#[derive(Drop)]
+pub struct Aboard<'a> {
+    pub state: State,
+    pub tables: &'a mut [u8],
+    pub staging: &'a [u8],
+    pub slots: &'a mut [u32],
+}
+
+// The line of a refused call; nothing of one that is carried out.
+pub fn print_refusal(text: &mut Text, answer: Result<(), Cause>) {
+    if let Err(cause) = answer {
+        let number = cause.number();
+        writeln!(text, "refused {number}");
     }
 }
 
-// The line of a refused call.
-pub fn print_refusal(rt: &HostRuntime, text: &mut [u8], at: &mut usize, number: u8) {
-    buffered::text::bytes(rt, text, at, b"refused");
-    buffered::text::number(rt, text, at, number as u64);
-    buffered::text::line_end(rt, text, at);
+// The ended frame, taken, boxes 5, 6 and 7, and the filled slots.
+fn print_closed(text: &mut Text, frame: u16, ended: Summary) {
+    let Summary {
+        taken,
+        counts,
+        filled,
+    } = ended;
+    let [_, _, _, _, box5, box6, box7, ..] = counts.boxes;
+    writeln!(text, "{frame} {taken} {box5} {box6} {box7} {filled}");
 }
 
-fn print_box(rt: &HostRuntime, text: &mut [u8], at: &mut usize, counts: Counts, b: usize)
-    requires { (1 ≤ b) × (b ≤ 116) }
+// A line's body before its first zero.
+fn line_in(body: &[u8]) -> &[u8]
+    ensures { result.now ≡ to_first_zero body.now }
 {
-    let n = counts.boxes[b - 1];
-    buffered::text::number(rt, text, at, n as u64);
+    &body[..length_before(body, 0)]
 }
 
-// The ended frame, taken, boxes 5, 6 and 7, and the filled slots. A refused close is printed as a refusal.
-fn print_closed(
-    rt: &HostRuntime,
-    text: &mut [u8],
-    at: &mut usize,
-    frame: u16,
-    number: u8,
-    ended: Summary,
-) {
-    if number != causes::CARRIED_OUT {
-        return;
+impl<'a> Aboard<'a> {
+    // One command line. Its echo and its sum are not printed. No package comes to this program, so no staged byte is bad.
+    fn line(&mut self, body: &[u8]) -> Result<(), Cause>
+        ensures number { call_number result
+            ≡ (line_done self.old.state (to_first_zero body.now) self.old.staging.now (zeros bitmap_bytes) (zeros echo_bytes)).answer.number }
+        ensures state { self.new.state
+            ≡ (line_done self.old.state (to_first_zero body.now) self.old.staging.now (zeros bitmap_bytes) (zeros echo_bytes)).answer.state }
+        ensures tables { self.new.tables.now ≡ self.old.tables.now }
+        ensures staging { self.new.staging.now ≡ self.old.staging.now }
+        ensures slots { self.new.slots.now ≡ self.old.slots.now }
+    {
+        let line = line_in(body);
+        let bitmap = [0u8; BITMAP_BYTES];
+        let mut echo = [0u8; ECHO_BYTES];
+        processor::line::line(&mut self.state, line, self.staging, &bitmap, &mut echo)?;
+        Ok(())
     }
-    let counts = ended.counts;
-    buffered::text::decimal(rt, text, at, frame as u64);
-    buffered::text::number(rt, text, at, ended.taken as u64);
-    print_box(rt, text, at, counts, 5);
-    print_box(rt, text, at, counts, 6);
-    print_box(rt, text, at, counts, 7);
-    buffered::text::number(rt, text, at, ended.filled as u64);
-    buffered::text::line_end(rt, text, at);
-}
 
-// The end of the interval. Its packets are not printed.
-fn close(
-    rt: &HostRuntime,
-    state: State,
-    tables: &mut [u8],
-    staging: &[u8],
-    slots: &mut [u32],
-    body: &[u8],
-    text: &mut [u8],
-    at: &mut usize,
-) -> Answer
-    requires { length body.now ≡ 4 }
-    ensures answer { result
-        ≡ (closed_to (close_done state (at32 body.now 0) tables.old staging.now slots.old
-        (zeros out_bytes))).answer }
-    ensures tables { tables.new
-        ≡ (close_done state (at32 body.now 0) tables.old staging.now slots.old
-        (zeros out_bytes)).tables }
-    ensures slots { slots.new
-        ≡ (close_done state (at32 body.now 0) tables.old staging.now slots.old
-        (zeros out_bytes)).slots }
-{
-    let time = wire::read::u32_at(body, 0);
-    let mut packets = [0u8; stream::start::OUT_BYTES];
-    let closed = processor::close::close(state, time, tables, staging, slots, &mut packets);
-    let ended = closed.summary;
-    print_closed(rt, text, at, state.frame, closed.number, ended);
-    let after = closed.state;
-    Answer {
-        number: closed.number,
-        state: after,
+    // The end of the interval. Its packets are not printed.
+    fn close(&mut self, body: &[u8], text: &mut Text) -> Result<(), Cause>
+        requires { length body.now ≡ 4 }
+        ensures number { call_number result
+            ≡ (close_done self.old.state (at32 body.now 0) self.old.tables.now self.old.staging.now self.old.slots.now
+            (zeros out_bytes)).answer.number }
+        ensures state { self.new.state
+            ≡ (close_done self.old.state (at32 body.now 0) self.old.tables.now self.old.staging.now self.old.slots.now
+            (zeros out_bytes)).answer.state }
+        ensures tables { self.new.tables.now
+            ≡ (close_done self.old.state (at32 body.now 0) self.old.tables.now self.old.staging.now self.old.slots.now
+            (zeros out_bytes)).tables }
+        ensures staging { self.new.staging.now ≡ self.old.staging.now }
+        ensures slots { self.new.slots.now
+            ≡ (close_done self.old.state (at32 body.now 0) self.old.tables.now self.old.staging.now self.old.slots.now
+            (zeros out_bytes)).slots }
+    {
+        let time = u32::read(body, 0);
+        let frame = self.state.frame;
+        let mut packets = [0u8; OUT_BYTES];
+        let ended = processor::close::close(
+            &mut self.state,
+            time,
+            self.tables,
+            self.staging,
+            self.slots,
+            &mut packets,
+        )?;
+        print_closed(text, frame, ended);
+        Ok(())
     }
-}
 
-// One record that is no event.
-pub fn carry_out(
-    rt: &HostRuntime,
-    kind: u8,
-    state: State,
-    tables: &mut [u8],
-    staging: &[u8],
-    slots: &mut [u32],
-    body: &[u8],
-    text: &mut [u8],
-    at: &mut usize,
-) -> Answer
-    requires { LongAs kind (length body.now) }
-    ensures answer { result
-        ≡ (kind_done kind state tables.old staging.now slots.old body.now).answer }
-    ensures tables { tables.new
-        ≡ (kind_done kind state tables.old staging.now slots.old body.now).tables }
-    ensures slots { slots.new
-        ≡ (kind_done kind state tables.old staging.now slots.old body.now).slots }
-{
-    match kind {
-        stream::record::READING => stream::record::reading(state, body),
-        stream::record::CLOSE => close(rt, state, tables, staging, slots, body, text, at),
-        _ => line(state, staging, body),
-    }
-}
-
-// The events that stand first in the input, one after the other, so that the state is handed on once for many events.
-pub fn events(
-    rt: &HostRuntime,
-    state: State,
-    input: Input,
-    tables: &[u8],
-    slots: &mut [u32],
-    buffer: &[u8],
-    text: &mut [u8],
-    at: &mut usize,
-) -> Step
-    requires { Held input buffer.now }
-    ensures input { Held result.input buffer.now × (input.at ≤ result.input.at) × (result.input.end ≡ input.end) }
-    ensures run { EventsRun state tables.now slots.old (waiting_in input buffer.now)
-        (result.input.at - input.at) result.state slots.new }
-    ensures all { NoEvent result.input.at result.input.end buffer.now × (result.more ≡ true) }
-{
-    let end = input.end;
-    let mut after = state;
-    let mut from = input.at;
-    while EVENT_RECORD <= end - from {
-        if buffer[from] != stream::record::EVENT {
-            return going_on(after, Input { at: from, end });
+    // One record that is no event.
+    #[tactic(auto, unfolding(crate::specs::Calls::kind_done))]
+    pub fn carry_out(&mut self, kind: Kind, body: &[u8], text: &mut Text) -> Result<(), Cause>
+        requires { LongAs (kind_number kind) (length body.now) }
+        ensures number { call_number result
+            ≡ (kind_done (kind_number kind) self.old.state self.old.tables.now self.old.staging.now self.old.slots.now body.now).answer.number }
+        ensures state { self.new.state
+            ≡ (kind_done (kind_number kind) self.old.state self.old.tables.now self.old.staging.now self.old.slots.now body.now).answer.state }
+        ensures tables { self.new.tables.now
+            ≡ (kind_done (kind_number kind) self.old.state self.old.tables.now self.old.staging.now self.old.slots.now body.now).tables }
+        ensures staging { self.new.staging.now ≡ self.old.staging.now }
+        ensures slots { self.new.slots.now
+            ≡ (kind_done (kind_number kind) self.old.state self.old.tables.now self.old.staging.now self.old.slots.now body.now).slots }
+    {
+        match kind {
+            Kind::Reading => reading(&mut self.state, body),
+            Kind::Close => self.close(body, text),
+            _ => self.line(body),
         }
-        let body = &buffer[from + 1..from + EVENT_RECORD];
-        let answer = stream::record::event(after, tables, slots, body);
-        // Handed on before the test: that saves the compiled program a copy of the state.
-        after = answer.state;
-        if answer.number != causes::CARRIED_OUT {
-            print_refusal(rt, text, at, answer.number);
-        }
-        from += EVENT_RECORD;
     }
-    going_on(after, Input { at: from, end })
+
+    // The events that stand first where bytes wait, one after the other; how many bytes they are.
+    pub fn events(&mut self, waiting: &[u8], text: &mut Text) -> usize
+        ensures used { result ≤ length waiting.now }
+        ensures tables { self.new.tables.now ≡ self.old.tables.now }
+        ensures staging { self.new.staging.now ≡ self.old.staging.now }
+        ensures run { EventsRun self.old.state self.old.tables.now self.old.slots.now waiting.now result self.new.state self.new.slots.now }
+        ensures all { NoEvent result (length waiting.now) waiting.now }
+    {
+        run_events(&mut self.state, self.tables, self.slots, waiting, text)
+    }
+}
+
+// The same of a state and buffers, lent each by itself, as the check covers it. The place in the bytes that wait is counted,
+// since it is what is handed back: chunks would need it beside them.
+fn run_events(
+    state: &mut State,
+    tables: &mut [u8],
+    slots: &mut [u32],
+    waiting: &[u8],
+    text: &mut Text,
+) -> usize
+    ensures used { result ≤ length waiting.now }
+    ensures tables { tables.new ≡ tables.old }
+    ensures run { EventsRun state.old tables.old slots.old waiting.now result state.new slots.new }
+    ensures all { NoEvent result (length waiting.now) waiting.now }
+{
+    let mut used = 0;
+    while EVENT_RECORD <= waiting.len() - used {
+        if waiting[used] != Kind::Event as u8 {
+            return used;
+        }
+        let body = &waiting[used + 1..used + EVENT_RECORD];
+        print_refusal(text, event(state, tables, slots, body));
+        used += EVENT_RECORD;
+    }
+    used
 }

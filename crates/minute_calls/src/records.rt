@@ -1,39 +1,35 @@
 // The records of minute: each kind has a body of one length.
-ghost use Rattle.std.specs.Prelude.{◌≤◌};
-ghost use Rattle.buffered.specs.Input.{Held, waiting_in};
+ghost use Rattle.std.specs.Prelude.{◌≡◌, ◌≤◌, unwrap_or};
+ghost use Rattle.stream.specs.Kind.{kind_number};
 ghost use Rattle.minute_calls.specs.Record.{Long, FirstOf};
 
 use buffered::input::Input;
-use stream::record::Next;
+use buffered::text::Text;
+use stream::kind::{BadRecord, Kind};
+use stream::record::{Next, fixed_bytes, whole};
 
 // A line's body, zero-filled.
 const LINE_BYTES: usize = 80;
 
-// The length of a kind's body; 0 for no kind.
-fn body_bytes(kind: u8) -> usize
-    ensures { (result ≤ 80) × Long kind result }
+// The length of a kind's body; none for a kind of replay.
+fn body_bytes(kind: Kind) -> Option<usize>
+    ensures { (unwrap_or result 0 ≤ 80) × Long (kind_number kind) (unwrap_or result 0) }
 {
-    if kind == stream::record::LINE {
-        LINE_BYTES
-    } else {
-        stream::record::fixed_bytes(kind)
+    match kind {
+        Kind::Line => Some(LINE_BYTES),
+        _ => fixed_bytes(kind),
     }
 }
 
 // The record that stands next in the input, its body right behind its kind.
-pub fn next(rt: &HostRuntime, buffer: &mut [u8], input: Input, text: &[u8], at: &mut usize) -> Next
-    requires { Held input buffer.old }
-    ensures { FirstOf result (waiting_in input buffer.old) buffer.new }
+pub fn next(input: &mut Input, text: &mut Text) -> Next
+    ensures { FirstOf result input.old input.new }
 {
-    let one = buffered::input::fill(rt, buffer, input, 1, text, at);
-    let start = one.at;
-    if one.end == start {
-        return Next::End;
-    }
-    let kind = buffer[start];
-    let n = body_bytes(kind);
-    if n == 0 {
-        return Next::Bad;
-    }
-    stream::record::whole(rt, buffer, one, kind, 1, n, text, at)
+    input.fill(1, text);
+    let Some(first) = input.waiting().first() else {
+        return Ok(None);
+    };
+    let kind = Kind::try_from(*first)?;
+    let n = body_bytes(kind).ok_or(BadRecord)?;
+    whole(input, kind, 1, n, text)
 }

@@ -13,6 +13,7 @@ use capacity::Numbers;
 use counts::Counts;
 use packet::layout::{PACKET_BYTES, RECORDS};
 use packet::stamp::stamp_of;
+use packet::write::{RateBody, write_beacon, write_rate};
 use rate_code::editions::SECOND_MARK;
 use state::State;
 
@@ -45,7 +46,7 @@ pub fn whole_span(n: Numbers) -> Span
 pub fn span_bytes(s: Span) -> usize
     ensures { result ≡ span_bytes s }
 {
-    PACKET_BYTES * (s.many as usize + 2)
+    PACKET_BYTES * (usize::from(s.many) + 2)
 }
 
 // The sample packets, the first of them into the second part.
@@ -54,37 +55,34 @@ fn write_samples(out: &mut [u8], frame: u16, time: u32, slots: &[u32], s: Span)
     ensures { out.new
         ≡ put out.old packet_bytes (samples_of frame time slots.now s.first s.many) }
 {
-    let mut i: u8 = 0;
-    while i < s.many {
-        let k = i as usize + 1;
-        let a = PACKET_BYTES * k;
-        let e = PACKET_BYTES * (k + 1);
-        let b = RECORDS * (i as usize);
+    for i in 0..s.many {
+        let k = usize::from(i);
+        let a = PACKET_BYTES * (k + 1);
+        let e = PACKET_BYTES * (k + 2);
+        let b = RECORDS * k;
         let f = b + RECORDS;
         let stamp = stamp_of(frame, time, s.first + i);
         packet::write::write_samples(&mut out[a..e], stamp, &slots[b..f]);
-        i += 1;
     }
 }
 
 // The packets of the state's interval, which ends at this time with these tables and slots.
-pub fn write_packets(s: State, time: u32, tables: &[u8], slots: &[u32], span: Span, out: &mut [u8])
-    requires s_value { (within_limits s ≡ true) × (length tables.now ≡ table_bytes) × (length out.old ≡ span_bytes span) }
+pub fn write_packets(s: &State, time: u32, tables: &[u8], slots: &[u32], span: Span, out: &mut [u8])
+    requires s_value { (within_limits s.now ≡ true) × (length tables.now ≡ table_bytes) × (length out.old ≡ span_bytes span) }
     requires many_in_bounds { (64 * span.many ≤ length slots.now) × (span.first + span.many < 256) }
-    ensures { out.new ≡ written (ended_in s time tables.now slots.now) span }
+    ensures { out.new ≡ written (ended_in s.now time tables.now slots.now) span }
 {
     let sum = packet::table_sum::table_sum(tables);
     let stamp = stamp_of(s.frame, time, SECOND_MARK);
-    packet::write::write_rate(
-        &mut out[0..PACKET_BYTES],
-        stamp,
-        &s.interval.totals,
-        &s.interval.counts.boxes,
-        s.settings,
+    let body = RateBody {
+        totals: &s.interval.totals,
+        boxes: &s.interval.counts.boxes,
+        settings: s.settings,
         sum,
-    );
+    };
+    write_rate(&mut out[0..PACKET_BYTES], stamp, body);
     write_samples(out, s.frame, time, slots, span);
-    let a = PACKET_BYTES * (span.many as usize + 1);
-    let e = PACKET_BYTES * (span.many as usize + 2);
-    packet::write::write_beacon(&mut out[a..e], stamp, &s.interval.counts.beacons);
+    let e = span_bytes(span);
+    let a = e - PACKET_BYTES;
+    write_beacon(&mut out[a..e], stamp, &s.interval.counts.beacons);
 }

@@ -13,5 +13,5 @@ pub const BEACON_APPLICATION: u16 = 624;
 pub fn of_sample(p: u8) -> u16
     ensures { (result ≡ application_of_sample p) × (result < secondary_flag) }
 {
-    SAMPLE_APPLICATION + p as u16
+    SAMPLE_APPLICATION + u16::from(p)
 }

@@ -5,7 +5,7 @@ ghost use Rattle.packet.specs.Layout.{application_at, body_at, sum_at, packet_by
 ghost use Rattle.packet.specs.Packet.{header, summed};
 
 use crate::layout;
-use wire::write::{put_u8, put_u16, put_u32};
+use wire::number::BigEndian;
 
 // A packet's first eleven bytes.
 pub fn write_header(part: &mut [u8], application: u16, sequence: u16, time: u32)
@@ -13,26 +13,21 @@ pub fn write_header(part: &mut [u8], application: u16, sequence: u16, time: u32)
     requires application_lt_secondary_flag { application < secondary_flag }
     ensures { part.new ≡ put part.old application_at (header application sequence time) }
 {
-    put_u16(
-        part,
-        layout::APPLICATION_AT,
-        layout::SECONDARY_FLAG + application,
-    );
-    put_u16(
-        part,
-        layout::SEQUENCE_AT,
-        layout::SEQUENCE_WORD + sequence % layout::SEQUENCE_COUNTS,
-    );
-    put_u16(part, layout::LENGTH_AT, layout::LENGTH_FIELD);
-    put_u32(part, layout::TIME_AT, time);
-    put_u8(part, layout::ZERO_AT, 0);
+    let first = layout::SECONDARY_FLAG + application;
+    first.put(part, layout::APPLICATION_AT);
+    let second = layout::SEQUENCE_WORD + sequence % layout::SEQUENCE_COUNTS;
+    second.put(part, layout::SEQUENCE_AT);
+    layout::LENGTH_FIELD.put(part, layout::LENGTH_AT);
+    time.put(part, layout::TIME_AT);
+    0u8.put(part, layout::ZERO_AT);
 }
 
-// The sum of all bytes before it.
+// The sum of all bytes before it, of which the byte takes the lowest eight bits: no conversion cuts a number off.
 pub fn write_sum(part: &mut [u8])
     requires { length part.old ≡ packet_bytes }
     ensures { part.new ≡ summed (take sum_at part.old) }
 {
     let sum = wire::read::byte_sum(&part[0..layout::SUM_AT]);
-    put_u8(part, layout::SUM_AT, (sum % 256) as u8);
+    let low = (sum % 256) as u8;
+    low.put(part, layout::SUM_AT);
 }

@@ -1,10 +1,11 @@
-// The three packets, each written into a lent part of 272 bytes of which nothing old remains.
+// The three packets, each written into a lent part of 272 bytes of which nothing old remains. Parts are slices and no
+// `&mut [u8; 272]`: the way of the sample packets names no array type (document 02, Point 3; tests/no_arrays.py).
 ghost use Rattle.std.specs.Prelude.{◌≡◌, ◌+◌, ◌*◌, ◌≤◌, ◌<◌, length};
 ghost use Rattle.wire.specs.Bytes.{put};
 ghost use Rattle.wire.specs.Lists.{EachBelow};
 ghost use Rattle.rate_code.specs.Rate.{count_limit};
 ghost use Rattle.rate_code.specs.Editions.{second_mark};
-ghost use Rattle.boxes.specs.Boxes.{box_count, beacon_count, total_count};
+ghost use Rattle.boxes.specs.Boxes.{beacon_count};
 ghost use Rattle.packet.specs.Layout.{packet_bytes, frame_at, sum_at, gap_at, code_bytes};
 ghost use Rattle.packet.specs.Layout.{record_count};
 ghost use Rattle.packet.specs.Packet.{trailer, codes, settings_flags, settings_bytes};
@@ -14,18 +15,21 @@ use crate::applications::{BEACON_APPLICATION, RATE_APPLICATION, of_sample};
 use crate::envelope::{write_header, write_sum};
 use crate::layout;
 use crate::stamp::Stamp;
+use boxes::{BOXES, TOTALS};
+use rate_code::code::RateCode;
+use rate_code::second::Second;
 use settings::Settings;
 use wire::bits::bit;
-use wire::write::{put_u8, put_u16};
+use wire::number::BigEndian;
 
 // The frame and the two bytes behind it.
 fn write_trailer(part: &mut [u8], stamp: Stamp)
     requires { sum_at ≤ length part.old }
     ensures { part.new ≡ put part.old frame_at (trailer stamp) }
 {
-    put_u16(part, layout::FRAME_AT, stamp.frame);
-    put_u8(part, layout::MARK_AT, stamp.mark);
-    put_u8(part, layout::LAST_AT, stamp.last);
+    stamp.frame.put(part, layout::FRAME_AT);
+    stamp.mark.put(part, layout::MARK_AT);
+    stamp.last.put(part, layout::LAST_AT);
 }
 
 // The counts' codes of the second edition, two bytes each, from `at` on.
@@ -34,14 +38,9 @@ fn write_codes(part: &mut [u8], at: usize, counts: &[u32])
     requires each_below { EachBelow count_limit counts.now }
     ensures { part.new ≡ put part.old at (codes second_mark counts.now) }
 {
-    let mut i: usize = 0;
-    while i < counts.len() {
-        put_u16(
-            part,
-            at + layout::CODE_BYTES * i,
-            rate_code::second::encode(counts[i]),
-        );
-        i += 1;
+    for (i, count) in counts.iter().enumerate() {
+        let code = Second::encode(*count);
+        code.put(part, at + layout::CODE_BYTES * i);
     }
 }
 
@@ -61,28 +60,38 @@ fn write_settings(part: &mut [u8], s: Settings, sum: u32)
     requires sum_bound { sum < 16777216 }
     ensures { part.new ≡ put part.old gap_at (settings_bytes s sum) }
 {
-    put_u8(part, layout::GAP_AT, 0);
-    put_u8(part, layout::HVSTEP_AT, s.hvstep);
-    put_u8(part, layout::FLAGS_AT, flags(s));
-    put_u16(part, layout::LIMHI_AT, s.limhi);
+    0u8.put(part, layout::GAP_AT);
+    s.hvstep.put(part, layout::HVSTEP_AT);
+    flags(s).put(part, layout::FLAGS_AT);
+    s.limhi.put(part, layout::LIMHI_AT);
     wire::write::put_u24(part, layout::TABLE_SUM_AT, sum);
 }
 
+// What a rate packet is written from.
+#[derive(Clone, Copy)]
+pub struct RateBody<'a> {
+    pub totals: &'a [u32; TOTALS],
+    pub boxes: &'a [u32; BOXES],
+    pub settings: Settings,
+    // The table sum.
+    pub sum: u32,
+    ghost totals_fit: { EachBelow count_limit totals.now },
+    ghost boxes_fit: { EachBelow count_limit boxes.now },
+    ghost sum_fits: { sum < 16777216 },
+}
+
 // The rate packet: eight totals and 116 boxes as codes, the settings, the table sum.
-pub fn write_rate<'a>(
-    part: &mut [u8],
-    stamp: Stamp,
-    totals: &'a [u32],
-    boxes: &'a [u32],
-    settings: Settings,
-    sum: u32,
-)
+pub fn write_rate(part: &mut [u8], stamp: Stamp, body: RateBody)
     requires part_len { length part.old ≡ packet_bytes }
-    requires totals_len { (length totals.now ≡ total_count) × (length boxes.now ≡ box_count) }
-    requires each_below { EachBelow count_limit totals.now × EachBelow count_limit boxes.now }
-    requires mark_value { (stamp.mark ≡ second_mark) × (sum < 16777216) }
-    ensures { part.new ≡ rate_packet stamp totals.now boxes.now settings sum }
+    requires mark_value { stamp.mark ≡ second_mark }
+    ensures { part.new ≡ rate_packet stamp body.entry.totals.now body.entry.boxes.now body.entry.settings body.entry.sum }
 {
+    let RateBody {
+        totals,
+        boxes,
+        settings,
+        sum,
+    } = body;
     write_header(part, RATE_APPLICATION, stamp.sequence, stamp.time);
     write_codes(part, layout::BODY_AT, totals);
     write_codes(part, layout::BOXES_AT, boxes);

@@ -8,10 +8,11 @@ mod values;
 use boxes::{BEACONS, BOXES};
 use packet::layout;
 use packet::stamp::stamp_of;
+use packet::write::RateBody;
 use rate_code::editions::SECOND_MARK;
 use settings::Settings;
 
-fn main() {
+fn main(rt: HostRuntime) {
     let mut part = [255u8; layout::PACKET_BYTES];
     let totals = [4095u32, 4096, 4097, 8191, 8192, 1000000, 16777215, 0];
     let mut boxes = [0u32; BOXES];
@@ -25,17 +26,23 @@ fn main() {
         hvstep: 201,
     };
     let stamp = stamp_of(0, 305419896, SECOND_MARK);
-    packet::write::write_rate(&mut part, stamp, &totals, &boxes, s, 11259375);
-    show::packet(&part);
-    cases::rate(&part);
+    let body = RateBody {
+        totals: &totals,
+        boxes: &boxes,
+        settings: s,
+        sum: 11259375,
+    };
+    packet::write::write_rate(&mut part, stamp, body);
+    show::packet(&rt, &part);
+    cases::rate(&rt, &part);
     let mut records = [0u32; layout::RECORDS];
     values::fill_records(&mut records, 7);
     packet::write::write_samples(&mut part, stamp_of(40000, 4294967295, 10), &records);
-    show::packet(&part);
-    cases::sample(&part);
+    show::packet(&rt, &part);
+    cases::sample(&rt, &part);
     let mut beacons = [0u32; BEACONS];
     values::fill_counts(&mut beacons, 99);
     packet::write::write_beacon(&mut part, stamp_of(65535, 60, SECOND_MARK), &beacons);
-    show::packet(&part);
-    cases::beacon(&part);
+    show::packet(&rt, &part);
+    cases::beacon(&rt, &part);
 }

@@ -1,100 +1,124 @@
 // Lines of output.
 use boxes::BEACONS;
-use decode::kind::Kind;
-use ground::Packet;
+use causes::call_number;
+use ground::{Contents, Packet};
 use packet::layout::RATES;
 use settings::Settings;
-use wire::bits::{bit, wide8, wide32};
 
-const STDOUT_FILENO: i32 = 1;
-
-fn end_line() {
-    io::write_all(STDOUT_FILENO, b"\n");
+// What the reader tells of a packet by its kind's number, and zeros for what that kind has not.
+#[derive(Clone, Copy)]
+struct Told {
+    kind: u8,
+    mark: u8,
+    p: u8,
+    sum: u32,
+    settings: Settings,
+    rates: [u32; RATES],
+    beacons: [u32; BEACONS],
 }
 
-fn hex_line(bytes: &[u8]) {
-    let mut i: usize = 0;
-    while i < bytes.len() {
-        io::print_hex(STDOUT_FILENO, wide8(bytes[i]) as u64, 2);
-        i += 1;
+const NOTHING: Told = Told {
+    kind: 0,
+    mark: 0,
+    p: 0,
+    sum: 0,
+    settings: Settings {
+        limhi: 0,
+        eonly: false,
+        toferror: false,
+        junk: false,
+        hv: false,
+        hvstep: 0,
+    },
+    rates: [0; RATES],
+    beacons: [0; BEACONS],
+};
+
+fn told_of(contents: Contents) -> Told {
+    match contents {
+        Contents::Rate {
+            mark,
+            rates,
+            settings,
+            sum,
+        } => Told {
+            kind: 1,
+            mark,
+            rates,
+            settings,
+            sum,
+            ..NOTHING
+        },
+        Contents::Sample { p } => Told {
+            kind: 2,
+            p,
+            ..NOTHING
+        },
+        Contents::Beacon { mark, beacons } => Told {
+            kind: 3,
+            mark,
+            beacons,
+            ..NOTHING
+        },
     }
-    end_line();
 }
 
-pub fn number(n: u64) {
-    io::print_decimal(STDOUT_FILENO, n);
-    end_line();
-}
-
-fn word(n: u64) {
-    io::print_decimal(STDOUT_FILENO, n);
-    io::write_all(STDOUT_FILENO, b" ");
-}
-
-fn byte_word(n: u8) {
-    word(n as u64);
-}
-
-fn counts_line(counts: &[u32]) {
-    let mut i: usize = 0;
-    while i < counts.len() {
-        word(wide32(counts[i]));
-        i += 1;
+fn hex_line(rt: &HostRuntime, bytes: &[u8]) {
+    for b in bytes {
+        let _ = print!(rt; "{b:02x}");
     }
-    end_line();
+    let _ = println!(rt; "");
 }
 
-fn rates_line(rates: &[u32; RATES]) {
-    counts_line(rates);
-}
-
-fn beacons_line(beacons: &[u32; BEACONS]) {
-    counts_line(beacons);
-}
-
-fn kind_number(kind: Kind) -> u64 {
-    match kind {
-        Kind::Rate => 1,
-        Kind::Sample => 2,
-        Kind::Beacon => 3,
-        Kind::None => 0,
+fn counts_line(rt: &HostRuntime, counts: &[u32]) {
+    for n in counts {
+        let _ = print!(rt; "{n} ");
     }
+    let _ = println!(rt; "");
 }
 
-// Number, kind, header and frame, table sum, p, mark.
-fn head_line(p: Packet) {
-    byte_word(p.number);
-    let kind = p.kind;
-    word(kind_number(kind));
-    word(p.application as u64);
-    word(p.sequence as u64);
-    word(p.time as u64);
-    word(p.frame as u64);
-    word(p.sum as u64);
-    byte_word(p.p);
-    byte_word(p.mark);
-    end_line();
+fn settings_line(rt: &HostRuntime, s: Settings) {
+    let _ = print!(rt; "{} {} ", s.limhi, u8::from(s.eonly));
+    let _ = print!(rt; "{} {} ", u8::from(s.toferror), u8::from(s.junk));
+    let _ = println!(rt; "{} {} ", u8::from(s.hv), s.hvstep);
 }
 
-fn settings_line(s: Settings) {
-    word(s.limhi as u64);
-    word(bit(s.eonly) as u64);
-    word(bit(s.toferror) as u64);
-    word(bit(s.junk) as u64);
-    word(bit(s.hv) as u64);
-    word(s.hvstep as u64);
-    end_line();
+// Number, kind, header and frame, table sum, p, mark; and what the kind has.
+fn read_lines(rt: &HostRuntime, packet: Packet) {
+    let Told {
+        kind,
+        mark,
+        p,
+        sum,
+        settings,
+        rates,
+        beacons,
+    } = told_of(packet.contents);
+    let Packet {
+        application,
+        sequence,
+        time,
+        frame,
+        ..
+    } = packet;
+    let _ = print!(rt; "0 {kind} {application} {sequence} ");
+    let _ = println!(rt; "{time} {frame} {sum} {p} {mark} ");
+    settings_line(rt, settings);
+    counts_line(rt, &rates);
+    counts_line(rt, &beacons);
+}
+
+// The number that the reader answers.
+pub fn number(rt: &HostRuntime, bytes: &[u8]) {
+    let _ = println!(rt; "{}", call_number(&ground::read(bytes)));
 }
 
 // A packet's bytes, and all that the reader answers for it.
-pub fn packet(bytes: &[u8]) {
-    hex_line(bytes);
-    let p = ground::read(bytes);
-    head_line(p);
-    settings_line(p.settings);
-    let rates = p.rates;
-    rates_line(&rates);
-    let beacons = p.beacons;
-    beacons_line(&beacons);
-    hex_line(ground::records(bytes));
+pub fn packet(rt: &HostRuntime, bytes: &[u8]) {
+    hex_line(rt, bytes);
+    match ground::read(bytes) {
+        Ok(packet) => read_lines(rt, packet),
+        Err(_) => number(rt, bytes),
+    }
+    hex_line(rt, ground::records(bytes));
 }

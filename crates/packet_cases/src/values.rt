@@ -18,11 +18,9 @@ pub fn fill_counts(counts: &mut [u32], seed: u32)
     ensures { EachBelow count_limit counts.new }
 {
     let mut x = seed;
-    let mut i: usize = 0;
-    while i < counts.len() {
+    for (i, count) in counts.iter_mut().enumerate() {
         x = next(x);
-        counts[i] = x >> (i % 24);
-        i += 1;
+        *count = x >> (i % 24);
     }
 }
 
@@ -38,10 +36,8 @@ pub fn fill_records(records: &mut [u32], seed: u32)
     requires { seed < count_limit }
 {
     let mut x = seed;
-    let mut i: usize = 0;
-    while i < records.len() {
+    for (i, empty) in records.iter_mut().enumerate() {
         x = next(x);
-        records[i] = if i % 8 == 7 { 0 } else { record(x) };
-        i += 1;
+        *empty = if i % 8 == 7 { 0 } else { record(x) };
     }
 }

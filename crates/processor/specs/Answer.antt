@@ -2,7 +2,11 @@
 use Rattle.std.specs.Prelude.{ℕ, cond, eqb}
 use Rattle.causes.specs.Causes.{carried_out}
 use Rattle.state.specs.declared.State.{State}
-use Rattle.processor.specs.declared.Answer.{Answer}
+
+-- a call's number, 0 where it was carried out, and the state
+pub record Answer : Type 0 where
+  pub number : ℕ
+  pub state : State
 
 -- a number and a state
 abbrev pub answer : (number : ℕ) → State → Answer

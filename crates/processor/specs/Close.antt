@@ -10,7 +10,7 @@ use Rattle.output.specs.Ended.{Ended, ended_in}
 use Rattle.output.specs.Output.{whole_span, span_bytes, written}
 use Rattle.state.specs.declared.State.{State}
 use Rattle.end_interval.specs.End.{endable, no_summary, state_ended, tables_ended}
-use Rattle.processor.specs.declared.close.Closed.{Closed}
+use Rattle.output.specs.declared.Summary.{Summary}
 use Rattle.processor.specs.Answer.{if_carried_out}
 
 -- ---- its number
@@ -30,6 +30,12 @@ unfoldable pub close_number : State → (tables staging : ℕ) (slots : List ℕ
 close_number s tables staging slots out = number_by (close_checks (endable s tables staging slots && out_right s.capacity out))
 
 -- ---- the call
+
+-- what a close hands back: its number and the state; of the interval that it ended its counts, and zeros where it was refused
+pub record Closed : Type 0 where
+  pub number : ℕ
+  pub state : State
+  pub summary : Summary
 
 -- what the call hands back and leaves in the lent tables, slots and output
 pub record CloseDone : Type 0 where

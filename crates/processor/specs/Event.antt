@@ -8,8 +8,7 @@ use Rattle.samples.specs.Selection.{slots_taken}
 use Rattle.state.specs.declared.State.{State}
 use Rattle.state.specs.State.{with_interval}
 use Rattle.take_event.specs.Event.{event_number, interval_taken}
-use Rattle.processor.specs.declared.Answer.{Answer}
-use Rattle.processor.specs.Answer.{answer, if_carried_out}
+use Rattle.processor.specs.Answer.{Answer, answer, if_carried_out}
 
 -- what the call hands back and leaves in the lent slots
 pub record EventDone : Type 0 where

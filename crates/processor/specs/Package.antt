@@ -6,8 +6,7 @@ use Rattle.load.specs.Staging.{payload_bytes, staging_after, addresses_after}
 use Rattle.state.specs.declared.State.{State}
 use Rattle.state.specs.State.{with_staging}
 use Rattle.take_package.specs.Package.{package_call_number, is_staged, staged_echo}
-use Rattle.processor.specs.declared.Answer.{Answer}
-use Rattle.processor.specs.Answer.{answer}
+use Rattle.processor.specs.Answer.{Answer, answer}
 
 -- what the call hands back and leaves in the lent staging, bitmap and echo
 pub record PackageDone : Type 0 where

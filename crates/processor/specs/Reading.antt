@@ -4,8 +4,7 @@ use Rattle.state.specs.declared.State.{State}
 use Rattle.state.specs.Interval.{with_reading}
 use Rattle.state.specs.State.{with_interval}
 use Rattle.take_reading.specs.Reading.{reading_number, added_totals}
-use Rattle.processor.specs.declared.Answer.{Answer}
-use Rattle.processor.specs.Answer.{answer, if_carried_out}
+use Rattle.processor.specs.Answer.{Answer, answer, if_carried_out}
 
 -- what the call hands back; nothing is lent
 abbrev pub reading_by : (number : ℕ) → State → List ℕ → Answer

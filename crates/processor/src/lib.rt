@@ -1,4 +1,5 @@
-// The processor's calls. Each takes the state by value and hands it back, and answers every input with one number.
+// The processor's calls. Each is lent the state, and answers every input: a call that is refused says why, and changes nothing
+// but for a package with a wrong sum. Any state may be lent: each call judges its limits, which are no invariant of the type.
 #![tactic(auto)]
 
 pub mod close;
@@ -7,12 +8,3 @@ pub mod line;
 pub mod listing;
 pub mod load_package;
 pub mod reading;
-
-use state::State;
-
-// A call's number, 0 where it was carried out, and the state.
-#[derive(Clone, Copy)]
-pub struct Answer {
-    pub number: u8,
-    pub state: State,
-}

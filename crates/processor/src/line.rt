@@ -1,31 +1,40 @@
 // One command line.
-ghost use Rattle.std.specs.Prelude.{◌≡◌};
+ghost use Rattle.std.specs.Prelude.{◌≡◌, IfOk, length};
+ghost use Rattle.causes.specs.Causes.{call_number};
+ghost use Rattle.causes.specs.Checks.{number_by};
+ghost use Rattle.state.specs.Limits.{within_limits};
+ghost use Rattle.take_line.specs.Line.{line_lent, line_checks};
 ghost use Rattle.processor.specs.Line.{line_done};
 
-use causes::unless;
+use causes::{Cause, check};
 use state::State;
-use take_line::{LineAnswer, take_line};
+use take_line::take_line;
 
-// One command line: 1, 4, 5, 6, 7, 15, 16, or 0 with the command waiting or carried out.
-pub fn line(state: State, line: &[u8], staging: &[u8], bitmap: &[u8], echo: &mut [u8]) -> LineAnswer
-    ensures answer { result
-        ≡ (line_done state line.now staging.now bitmap.now echo.old).answer }
+// One command line: 1, 4, 5, 6, 7, 15, 16, or 0 with the command waiting or carried out, and the sum that an ask returns.
+#[tactic(auto, unfolding(crate::specs::Line::line_done, take_line::specs::Line::line_number))]
+pub fn line(
+    state: &mut State,
+    line: &[u8],
+    staging: &[u8],
+    bitmap: &[u8],
+    echo: &mut [u8],
+) -> Result<u32, Cause>
+    ensures number { call_number result
+        ≡ (line_done state.old line.now staging.now bitmap.now echo.old).answer.number }
+    ensures state { state.new
+        ≡ (line_done state.old line.now staging.now bitmap.now echo.old).answer.state }
+    ensures sum { IfOk result (λ sum. sum
+        ≡ (line_done state.old line.now staging.now bitmap.now echo.old).answer.sum) }
     ensures echo { echo.new
-        ≡ (line_done state line.now staging.now bitmap.now echo.old).echo }
+        ≡ (line_done state.old line.now staging.now bitmap.now echo.old).echo }
 {
-    let limits = state::limits::within_limits(state);
     let lent = (staging.len() == load::staging::STAGING_BYTES)
         & (bitmap.len() == load::bitmap::BITMAP_BYTES)
         & (echo.len() == echo::ECHO_BYTES);
-    let bytes = command::line::bytes_ok(line);
-    let other = unless(bytes, causes::LINE_BYTES, causes::CARRIED_OUT);
-    let number = unless(limits & lent, causes::BUFFER_OR_STATE, other);
-    if number != causes::CARRIED_OUT {
-        return LineAnswer {
-            number,
-            state,
-            sum: 0,
-        };
-    }
+    check(
+        state::limits::within_limits(state) & lent,
+        Cause::BufferOrState,
+    )?;
+    check(command::line::bytes_ok(line), Cause::LineBytes)?;
     take_line(state, line, staging, bitmap, echo)
 }

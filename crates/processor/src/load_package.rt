@@ -1,37 +1,43 @@
 // One load package.
 ghost use Rattle.std.specs.Prelude.{◌≡◌};
+ghost use Rattle.causes.specs.Causes.{call_number};
 ghost use Rattle.processor.specs.Package.{package_done};
 
-use crate::Answer;
+use causes::Cause;
+use load::package::Package;
 use state::State;
-use take_package::{echo_staged, is_staged, package_number, stage};
+use take_package::{echo_staged, is_staged, judge, stage};
 
 // One load package: 1, 6, 8, 9, or its bytes staged with 0 or 10.
+#[tactic(auto, unfolding(crate::specs::Package::package_done))]
 pub fn package(
-    state: State,
+    state: &mut State,
     bytes: &[u8],
     staging: &mut [u8],
     bitmap: &mut [u8],
     echo: &mut [u8],
-) -> Answer
-    ensures answer { result
-        ≡ (package_done state bytes.now staging.old bitmap.old echo.old).answer }
+) -> Result<(), Cause>
+    ensures number { call_number result
+        ≡ (package_done state.old bytes.now staging.old bitmap.old echo.old).answer.number }
+    ensures state { state.new
+        ≡ (package_done state.old bytes.now staging.old bitmap.old echo.old).answer.state }
     ensures staging { staging.new
-        ≡ (package_done state bytes.now staging.old bitmap.old echo.old).staging }
+        ≡ (package_done state.old bytes.now staging.old bitmap.old echo.old).staging }
     ensures bitmap { bitmap.new
-        ≡ (package_done state bytes.now staging.old bitmap.old echo.old).bitmap }
+        ≡ (package_done state.old bytes.now staging.old bitmap.old echo.old).bitmap }
     ensures echo { echo.new
-        ≡ (package_done state bytes.now staging.old bitmap.old echo.old).echo }
+        ≡ (package_done state.old bytes.now staging.old bitmap.old echo.old).echo }
 {
-    let number = package_number(state, bytes, staging.len(), bitmap.len(), echo.len());
-    if !is_staged(number) {
-        return Answer { number, state };
+    let judged = judge(state, bytes, staging.len(), bitmap.len(), echo.len());
+    if !is_staged(judged) {
+        return judged;
     }
-    echo_staged(number, state.staging.next, bytes, echo);
-    let wrong = number == causes::PACKAGE_SUM;
-    let after = stage(state, wrong, bytes, staging, bitmap);
-    Answer {
-        number,
-        state: after,
-    }
+    // What `judge` has found is not handed on, since it refuses a package that is staged with a wrong sum.
+    let Ok(sent) = Package::parse(bytes) else {
+        unreachable!()
+    };
+    let wrong = judged.is_err();
+    echo_staged(wrong, state.staging.next, &sent, echo);
+    stage(state, wrong, &sent, staging, bitmap);
+    judged
 }

@@ -12,6 +12,7 @@ use lib.Dec.{ltb, eqb}
 use lib.Count.{count_leading_zeros, leading_top}
 use borrow.Author.Tests.{lt-ltb, le-ltb, ltb-true, ltb-false, leb-true, le-leb, eqb-true}
 use Rattle.wire.proofs.Lists.{and_split, or_split}
+use Rattle.rate_code.specs.Laws.{CodeLaws}
 use Rattle.rate_code.specs.Rate.{count_limit, least_from, shift, rate_code, least_count, code_valid}
 
 -- ---- the shift
@@ -190,3 +191,14 @@ valid_again c h =
 -- so the least count of a count's code has that code too
 pub code_again : (n : ℕ) → n < count_limit → rate_code (least_count (rate_code n)) ≡ rate_code n
 code_again n h = valid_again (rate_code n) (code_valid_lem n h)
+
+-- the laws of an edition
+pub code_laws : CodeLaws rate_code least_count code_valid
+code_laws = record {
+  fits = code_fits;
+  coded = code_valid_lem;
+  at_most = least_le;
+  again = code_again;
+  below = least_below;
+  valid_again = valid_again;
+}

@@ -12,6 +12,7 @@ use lib.Count.{count_leading_zeros}
 use lib.Dec.{ltb}
 use borrow.Author.Tests.{lt-ltb, le-ltb, ltb-true, ltb-false}
 use Rattle.wire.proofs.Lists.{decide}
+use Rattle.rate_code.specs.Laws.{CodeLaws}
 use Rattle.rate_code.specs.Rate.{count_limit, rate_code, least_count, code_valid}
 use Rattle.rate_code.specs.Second.{exponent, second_code, second_least, second_valid}
 use Rattle.rate_code.proofs.Codes.{least_is, bits, least_cut, least_le, parts}
@@ -159,6 +160,17 @@ module _ (c : ℕ) (h : c < 0xD000) where
       let k : c / 4096 - 1 ≤ 11 = omega (arith, h) in
       let p : 2 ^ (c / 4096 - 1) ≤ 2 ^ 11 = pow_mono k in
       rw (le-ltb c 4096 g) (omega (arith, mul-le-mul a p)))
+
+-- the laws of an edition
+pub second_laws : CodeLaws second_code second_least second_valid
+second_laws = record {
+  fits = second_fits;
+  coded = second_valid_lem;
+  at_most = second_le;
+  again = λ n h. second_again (second_code n) (second_below n h);
+  below = λ c h. second_least_below c (valid_below c h);
+  valid_again = λ c h. second_again c (valid_below c h);
+}
 
 -- the least count of a code from 1000 hex on
 pub least_high : (c : ℕ) → 4096 ≤ c → second_least c ≡ (c % 4096 + 4096) * 2 ^ (c / 4096 - 1)

@@ -2,6 +2,8 @@
 -- 269; the reader takes both editions, and 13 judges codes by that byte"; Point 6: "The reader takes the mark 2 by the second edition's
 -- rule"). Assumes nothing.
 use Rattle.std.specs.Prelude.{ℕ, Bool, cond, eqb}
+use Rattle.rate_code.specs.declared.editions.Edition.{Edition}
+use Rattle.rate_code.specs.declared.editions.Edition.TheVariants.{First, Second}
 use Rattle.rate_code.specs.Rate.{rate_code, least_count, code_valid}
 use Rattle.rate_code.specs.Second.{second_code, second_least, second_valid}
 
@@ -19,6 +21,10 @@ converted_mark = 2
 -- whether the mark is that of the first edition
 abbrev pub is_first : (mark : ℕ) → Bool
 is_first mark = eqb mark first_mark
+
+-- the edition that a mark stands for
+abbrev pub edition_of : (mark : ℕ) → Edition
+edition_of mark = cond (is_first mark) First Second
 
 abbrev pub code_by : (mark n : ℕ) → ℕ
 code_by mark n = cond (is_first mark) (rate_code n) (second_code n)

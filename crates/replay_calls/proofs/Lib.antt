@@ -1,4 +1,2 @@
--- Laws of records, which replay's proofs cite too, and of what they leave, aboard and on the ground.
+-- Laws of records, which the programs' proofs cite too.
 pub mod RecordLaws
-mod CallLaws
-mod GroundLaws

@@ -2,19 +2,18 @@
 use mathlib.Core.Path.{◌≡◌, refl, sym, ap, subst, ◌∙◌}
 use mathlib.Core.Bool.{true, false, false≢true, ◌&&◌}
 use mathlib.Core.List.{List}
-use Prim.Native.Nat.{ℕ, ◌+◌, ◌-◌, ◌*◌, ◌/◌, ◌%◌, ◌≤◌}
-use native.Mathlib.Nat.{add_assoc}
+use Prim.Native.Nat.{ℕ, ◌*◌, ◌/◌, ◌%◌, ◌≤◌}
 use native.Mathlib.Omega.{arith}
 use lib.Dec.{eqb}
 use lib.ListN.{length, get_or}
 use borrow.Author.Tests.{eqb-true, eqb-false, eq-eqb, ne_eqb}
 use Rattle.wire.specs.Bytes.{at16}
 use Rattle.wire.proofs.Lists.{decide}
-use Rattle.buffered.specs.declared.input.Input.{Input}
-use Rattle.buffered.specs.Input.{Held, waiting_in}
+use Rattle.std.proofs.Common.{Option, Some, None, Result, Ok, Err}
+use Rattle.stream.specs.Kind.{kind_number}
 use Rattle.stream.specs.Record.{FoundIn, IsOf}
-use Rattle.stream.specs.declared.record.Next.{Next}
-use Rattle.stream.specs.declared.record.Next.TheVariants.{End, Bad, Record}
+use Rattle.stream.specs.declared.kind.BadRecord.{BadRecord}
+use Rattle.stream.specs.declared.record.Record.{Record}
 use Rattle.buffered.proofs.InputLaws.{byte_same}
 use Rattle.replay_calls.specs.Record.{is_counted, Long, BodyLong, FirstOf, LiesIn, body_right}
 
@@ -33,32 +32,31 @@ module _ (kind : ℕ) where
       other k e q = false≢true (sym q ∙ ap is_counted (sym e) ∙ h)
 
 -- a body of a length of its own
-pub own_long : (k n : ℕ) (r : Next) (buffer : List ℕ) → is_counted k ≡ false → Long k n → IsOf k 1 n r → BodyLong r buffer
-own_long k n End buffer t l q = tt
-own_long k n Bad buffer t l q = tt
-own_long k n (Record kind start from rest) buffer t l q =
-    let is : is_counted kind ≡ false = ap is_counted q.0 ∙ t in
+pub own_long : (k n : ℕ) (r : Result (Option Record) BadRecord) (waiting : List ℕ) → is_counted k ≡ false → Long k n → IsOf k 1 n r
+    → BodyLong r waiting
+own_long k n (Ok None) waiting t l q = tt
+own_long k n (Ok (Some r)) waiting t l q =
+    let is : is_counted (kind_number r.kind) ≡ false = ap is_counted q.0 ∙ t in
     (rw is q.1, rw (q.0, q.2) l, λ h. absurd (false≢true (sym is ∙ h)))
+own_long k n (Err e) waiting t l q = tt
 
--- a body whose length was read where the bytes at i waited, one byte behind the first
-pub counted_body : (k n : ℕ) (r : Next) (i : Input) (b buffer : List ℕ) → is_counted k ≡ true → Held i b → 3 ≤ i.end - i.at
-    → n ≡ at16 b (i.at + 1) → IsOf k 3 n r → FoundIn r (waiting_in i b) buffer → BodyLong r buffer
-counted_body k n End i b buffer t h g e q f = tt
-counted_body k n Bad i b buffer t h g e q f = tt
-counted_body k n (Record kind start from rest) i b buffer t h g e q f =
-    let j : Input = record { at = start; end = rest.end } in
-    let same = byte_same i j b buffer h (omega (arith, f.0, f.1, f.2), f.2.1) f.4 in
-    let first : get_or buffer (start + 1) 0 ≡ get_or b (i.at + 1) 0 = same 1 (omega arith) in
-    let second : get_or buffer (start + 1 + 1) 0 ≡ get_or b (i.at + 1 + 1) 0 =
-    rw (add_assoc start 1 1, add_assoc i.at 1 1) (same 2 (omega arith)) in
-    let is : is_counted kind ≡ true = ap is_counted q.0 ∙ t in
-    (rw is q.1, counted_long kind _ is, λ _. q.2 ∙ e ∙ rw (first, second))
+-- a body whose length was read where the bytes `old` waited, one byte behind the first
+pub counted_body : (k n : ℕ) (r : Result (Option Record) BadRecord) (old waiting : List ℕ) → is_counted k ≡ true → 3 ≤ length old
+    → n ≡ at16 old 1 → IsOf k 3 n r → FoundIn r old waiting → BodyLong r waiting
+counted_body k n (Ok None) old waiting t g e q f = tt
+counted_body k n (Ok (Some r)) old waiting t g e q f =
+    let same = byte_same old waiting f.4 in
+    let first : get_or waiting 1 0 ≡ get_or old 1 0 = same 1 (omega arith) in
+    let second : get_or waiting 2 0 ≡ get_or old 2 0 = same 2 (omega arith) in
+    let is : is_counted (kind_number r.kind) ≡ true = ap is_counted q.0 ∙ t in
+    (rw is q.1, counted_long (kind_number r.kind) _ is, λ _. q.2 ∙ e ∙ rw (first, second))
+counted_body k n (Err e) old waiting t g l q f = tt
 
--- the record that stands first lies in the buffer
-pub first_lies : (r : Next) (old buffer : List ℕ) → FirstOf r old buffer → LiesIn r buffer
-first_lies End old buffer f = tt
-first_lies Bad old buffer f = tt
-first_lies (Record kind start from rest) old buffer f = (f.0.1, f.0.2, f.1.1)
+-- the record that stands first lies in the bytes that wait
+pub first_lies : (r : Result (Option Record) BadRecord) (old waiting : List ℕ) → FirstOf r old waiting → LiesIn r waiting
+first_lies (Ok None) old waiting f = tt
+first_lies (Ok (Some r)) old waiting f = (f.0.1, f.0.2, f.1.1)
+first_lies (Err e) old waiting f = tt
 
 -- whether so many bytes are four for each of n
 pub by_four : (bytes n : ℕ) → (eqb (bytes % 4) 0 && eqb (bytes / 4) n) ≡ eqb bytes (4 * n)

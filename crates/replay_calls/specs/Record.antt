@@ -1,13 +1,13 @@
 -- Records of replay: as minute's, but lines, packages, bytes to read, gather or convert, and slots have their length in front.
 -- Assumes nothing.
-use Rattle.std.specs.Prelude.{Bool, true, ◌||◌, cond, List, ◌≡◌, ℕ, ◌+◌, ◌-◌, ◌*◌, ◌≤◌, eqb, length}
+use Rattle.std.specs.Prelude.{Bool, true, ◌||◌, cond, List, ◌≡◌, ℕ, ◌-◌, ◌*◌, ◌≤◌, eqb, length, Option, Some, None, Result, Ok, Err}
 use Rattle.wire.specs.Bytes.{at16}
 use Rattle.image.specs.Layout.{image_bytes}
 use Rattle.image.specs.Image.{image_good}
-use Rattle.buffered.specs.Input.{Held}
+use Rattle.stream.specs.Kind.{kind_number}
 use Rattle.stream.specs.Record.{LongAs, FoundIn}
-use Rattle.stream.specs.declared.record.Next.{Next}
-use Rattle.stream.specs.declared.record.Next.TheVariants.{End, Bad, Record}
+use Rattle.stream.specs.declared.kind.BadRecord.{BadRecord}
+use Rattle.stream.specs.declared.record.Record.{Record}
 
 abbrev pub is_counted : ℕ → Bool
 is_counted kind = eqb kind 3 || eqb kind 5 || eqb kind 6 || eqb kind 8 || eqb kind 10 || eqb kind 11 || eqb kind 22
@@ -22,25 +22,25 @@ abbrev pub head_of : ℕ → ℕ
 head_of kind = cond (is_counted kind) 3 1
 
 -- the body of a record stands behind its head, and has the length of its kind, or the one that stands behind the kind byte
-abbrev pub BodyLong : Next → (buffer : List ℕ) → Type 0
-BodyLong End buffer = Unit {0}
-BodyLong Bad buffer = Unit {0}
-BodyLong (Record kind start from rest) buffer =
-    (start + head_of kind ≡ from)
-    × Long kind (rest.at - from)
-    × (is_counted kind ≡ true → rest.at - from ≡ at16 buffer (start + 1))
+abbrev pub BodyLong : Result (Option Record) BadRecord → (waiting : List ℕ) → Type 0
+BodyLong (Ok None) waiting = Unit {0}
+BodyLong (Ok (Some r)) waiting =
+    (head_of (kind_number r.kind) ≡ r.from)
+    × Long (kind_number r.kind) (r.to - r.from)
+    × (is_counted (kind_number r.kind) ≡ true → r.to - r.from ≡ at16 waiting 1)
+BodyLong (Err e) waiting = Unit {0}
 
--- the record that stands first where the bytes `old` wait
-abbrev pub FirstOf : Next → (old buffer : List ℕ) → Type 0
-FirstOf r old buffer = FoundIn r old buffer × BodyLong r buffer
+-- the record that stands first where the bytes `old` wait, of those that wait now
+abbrev pub FirstOf : Result (Option Record) BadRecord → (old waiting : List ℕ) → Type 0
+FirstOf r old waiting = FoundIn r old waiting × BodyLong r waiting
 
 -- a body that can be carried out: the bytes of a state are one, and slots come for all of so many, four bytes each. Any other is a
 -- bad record
 unfoldable pub body_right : (kind : ℕ) (body : List ℕ) (slots : ℕ) → Bool
 body_right kind body slots = cond (eqb kind 20) (image_good body) (cond (eqb kind 22) (eqb (length body) (4 * slots)) true)
 
--- the record's body lies in the buffer, and the rest of the input behind it
-abbrev pub LiesIn : Next → (buffer : List ℕ) → Type 0
-LiesIn End buffer = Unit {0}
-LiesIn Bad buffer = Unit {0}
-LiesIn (Record kind start from rest) buffer = (from ≤ rest.at) × Held rest buffer × Long kind (rest.at - from)
+-- the record's body lies in the bytes that wait
+abbrev pub LiesIn : Result (Option Record) BadRecord → (waiting : List ℕ) → Type 0
+LiesIn (Ok None) waiting = Unit {0}
+LiesIn (Ok (Some r)) waiting = (r.from ≤ r.to) × (r.to ≤ length waiting) × Long (kind_number r.kind) (r.to - r.from)
+LiesIn (Err e) waiting = Unit {0}

@@ -7,140 +7,144 @@ ghost use Rattle.processor.specs.Close.{close_done};
 ghost use Rattle.processor.specs.Line.{line_done};
 ghost use Rattle.processor.specs.Package.{package_done};
 ghost use Rattle.processor.specs.Reading.{reading_done};
+ghost use Rattle.stream.specs.Kind.{kind_number};
 ghost use Rattle.stream.specs.Record.{counts_in, record_done};
 ghost use Rattle.stream.specs.Start.{out_bytes};
 ghost use Rattle.replay_calls.specs.Calls.{kind_done, Left};
 ghost use Rattle.replay_calls.specs.Record.{Long, body_right};
 
-use crate::records::{LISTING, PACKAGE, SHOW, SLOTS, STATE};
+use answers::calls::{
+    print_line, print_number, print_package, print_shown, print_slots, print_state,
+};
+use answers::close::print_close;
+use answers::listing::print_written;
+use buffered::text::Text;
+use causes::call_number;
 use image::layout::IMAGE_BYTES;
+use packet::layout::PACKET_BYTES;
 use state::State;
+use stream::kind::Kind;
+use stream::start::OUT_BYTES;
+use wire::number::BigEndian;
 
-fn event(
-    rt: &HostRuntime,
-    state: State,
-    tables: &[u8],
-    slots: &mut [u32],
-    body: &[u8],
-    text: &mut [u8],
-    at: &mut usize,
-) -> State
-    requires { length body.now ≡ 7 }
-    ensures answer { result ≡ (record_done state tables.now slots.old body.now).answer.state }
-    ensures slots { slots.new ≡ (record_done state tables.now slots.old body.now).slots }
-{
-    let answer = stream::record::event(state, tables, slots, body);
-    answers::calls::print_event(rt, text, at, answer.number);
-    answer.state
+// What the calls work on: the state, and the buffers that they are lent.
+#[derive(Drop)]
+pub struct Aboard<'a> {
+    pub state: State,
+    pub tables: &'a mut [u8],
+    pub staging: &'a mut [u8],
+    pub bitmap: &'a mut [u8],
+    pub slots: &'a mut [u32],
+    pub echo: &'a mut [u8],
 }
 
-fn reading(rt: &HostRuntime, state: State, body: &[u8], text: &mut [u8], at: &mut usize) -> State
+// Each call takes as `&mut` what it only reads too: loans of both kinds behind one `&mut self` are not covered by the check.
+
+fn event(state: &mut State, tables: &mut [u8], slots: &mut [u32], body: &[u8], text: &mut Text)
+    requires { length body.now ≡ 7 }
+    ensures state { state.new ≡ (record_done state.old tables.old slots.old body.now).answer.state }
+    ensures slots { slots.new ≡ (record_done state.old tables.old slots.old body.now).slots }
+    ensures tables { tables.new ≡ tables.old }
+{
+    let answer = stream::record::event(state, tables, slots, body);
+    print_number(text, "event", call_number(&answer));
+}
+
+fn reading(state: &mut State, body: &[u8], text: &mut Text)
     requires { length body.now ≡ 16 }
-    ensures { result ≡ (reading_done state (counts_in body.now)).state }
+    ensures { state.new ≡ (reading_done state.old (counts_in body.now)).state }
 {
     let answer = stream::record::reading(state, body);
-    answers::calls::print_reading(rt, text, at, answer.number);
-    answer.state
+    print_number(text, "reading", call_number(&answer));
 }
 
 fn line(
-    rt: &HostRuntime,
-    state: State,
-    staging: &[u8],
-    bitmap: &[u8],
-    echo: &mut [u8],
-    body: &[u8],
-    text: &mut [u8],
-    at: &mut usize,
-) -> State
-    ensures answer { result
-        ≡ (line_done state body.now staging.now bitmap.now echo.old).answer.state }
-    ensures echo { echo.new
-        ≡ (line_done state body.now staging.now bitmap.now echo.old).echo }
-{
-    let answer = processor::line::line(state, body, staging, bitmap, echo);
-    answers::calls::print_line(rt, text, at, answer.number, echo, answer.sum);
-    answer.state
-}
-
-fn package(
-    rt: &HostRuntime,
-    state: State,
+    state: &mut State,
     staging: &mut [u8],
     bitmap: &mut [u8],
     echo: &mut [u8],
     body: &[u8],
-    text: &mut [u8],
-    at: &mut usize,
-) -> State
-    ensures answer { result
-        ≡ (package_done state body.now staging.old bitmap.old echo.old).answer.state }
-    ensures staging { staging.new
-        ≡ (package_done state body.now staging.old bitmap.old echo.old).staging }
-    ensures bitmap { bitmap.new
-        ≡ (package_done state body.now staging.old bitmap.old echo.old).bitmap }
+    text: &mut Text,
+)
+    ensures state { state.new
+        ≡ (line_done state.old body.now staging.old bitmap.old echo.old).answer.state }
     ensures echo { echo.new
-        ≡ (package_done state body.now staging.old bitmap.old echo.old).echo }
+        ≡ (line_done state.old body.now staging.old bitmap.old echo.old).echo }
+    ensures staging { staging.new ≡ staging.old }
+    ensures bitmap { bitmap.new ≡ bitmap.old }
+{
+    let answer = processor::line::line(state, body, staging, bitmap, echo);
+    print_line(text, call_number(&answer), echo, answer.unwrap_or(0));
+}
+
+fn package(
+    state: &mut State,
+    staging: &mut [u8],
+    bitmap: &mut [u8],
+    echo: &mut [u8],
+    body: &[u8],
+    text: &mut Text,
+)
+    ensures state { state.new
+        ≡ (package_done state.old body.now staging.old bitmap.old echo.old).answer.state }
+    ensures staging { staging.new
+        ≡ (package_done state.old body.now staging.old bitmap.old echo.old).staging }
+    ensures bitmap { bitmap.new
+        ≡ (package_done state.old body.now staging.old bitmap.old echo.old).bitmap }
+    ensures echo { echo.new
+        ≡ (package_done state.old body.now staging.old bitmap.old echo.old).echo }
 {
     let answer = processor::load_package::package(state, body, staging, bitmap, echo);
-    answers::calls::print_package(rt, text, at, answer.number, echo);
-    answer.state
+    print_package(text, call_number(&answer), echo);
 }
 
 // The packets are printed only where the close has filled them whole.
 fn close(
-    rt: &HostRuntime,
-    state: State,
+    state: &mut State,
     tables: &mut [u8],
-    staging: &[u8],
+    staging: &mut [u8],
     slots: &mut [u32],
     body: &[u8],
-    text: &mut [u8],
-    at: &mut usize,
-) -> State
+    text: &mut Text,
+)
     requires { length body.now ≡ 4 }
-    ensures answer { result
-        ≡ (close_done state (at32 body.now 0) tables.old staging.now slots.old
+    ensures state { state.new
+        ≡ (close_done state.old (at32 body.now 0) tables.old staging.old slots.old
         (zeros out_bytes)).answer.state }
     ensures tables { tables.new
-        ≡ (close_done state (at32 body.now 0) tables.old staging.now slots.old
+        ≡ (close_done state.old (at32 body.now 0) tables.old staging.old slots.old
         (zeros out_bytes)).tables }
     ensures slots { slots.new
-        ≡ (close_done state (at32 body.now 0) tables.old staging.now slots.old
+        ≡ (close_done state.old (at32 body.now 0) tables.old staging.old slots.old
         (zeros out_bytes)).slots }
+    ensures staging { staging.new ≡ staging.old }
 {
-    let time = wire::read::u32_at(body, 0);
-    let mut packets = [0u8; stream::start::OUT_BYTES];
-    let closed = processor::close::close(state, time, tables, staging, slots, &mut packets);
-    let ended = closed.summary;
-    answers::close::print_close(rt, text, at, state.frame, closed.number, ended, &packets);
-    closed.state
+    let time = u32::read(body, 0);
+    let frame = state.frame;
+    let mut packets = [0u8; OUT_BYTES];
+    let ended = processor::close::close(state, time, tables, staging, slots, &mut packets);
+    print_close(text, frame, ended, &packets);
 }
 
 // One packet of the tables, which changes nothing aboard.
-fn listing(
-    rt: &HostRuntime,
-    state: State,
-    tables: &[u8],
-    body: &[u8],
-    text: &mut [u8],
-    at: &mut usize,
-)
+fn listing(state: &mut State, tables: &mut [u8], body: &[u8], text: &mut Text)
     requires { length body.now ≡ 6 }
+    ensures state { state.new ≡ state.old }
+    ensures tables { tables.new ≡ tables.old }
 {
-    let i = wire::read::u16_at(body, 0);
-    let time = wire::read::u32_at(body, 2);
-    let mut out = [0u8; packet::layout::PACKET_BYTES];
-    let number = processor::listing::listing(state, i, time, tables, &mut out);
-    answers::listing::print_written(rt, text, at, b"listing", number, &out);
+    let i = u16::read(body, 0);
+    let time = u32::read(body, 2);
+    let mut out = [0u8; PACKET_BYTES];
+    let answer = processor::listing::listing(state, i, time, tables, &mut out);
+    print_written(text, "listing", answer, &out);
 }
 
 // A state in place of the one there is.
-fn hand_in(rt: &HostRuntime, body: &[u8], text: &mut [u8], at: &mut usize) -> State
+fn hand_in(body: &[u8], text: &mut Text) -> State
     requires { length body.now ≡ image_bytes }
     ensures { result ≡ state_of body.now }
 {
-    answers::calls::print_state(rt, text, at);
+    print_state(text);
     image::read::decode(body)
 }
 
@@ -153,60 +157,58 @@ fn shown(state: State) -> [u8; IMAGE_BYTES]
     bytes
 }
 
-fn show(rt: &HostRuntime, state: State, text: &mut [u8], at: &mut usize) {
-    let bytes = shown(state);
-    answers::calls::print_shown(rt, text, at, &bytes);
-}
-
 // All slots in place of those there are.
-fn hand_in_slots(rt: &HostRuntime, slots: &mut [u32], body: &[u8], text: &mut [u8], at: &mut usize)
+fn hand_in_slots(slots: &mut [u32], body: &[u8], text: &mut Text)
     requires { length body.now ≡ 4 * length slots.old }
     ensures { slots.new ≡ numbers_at body.now 0 (length slots.old) }
 {
     image::read::words_at(body, 0, slots);
-    answers::calls::print_slots(rt, text, at);
+    print_slots(text);
 }
 
-// One record, of which those of the ground change nothing aboard.
-pub fn carry_out(
-    rt: &HostRuntime,
-    kind: u8,
-    state: State,
-    tables: &mut [u8],
-    staging: &mut [u8],
-    bitmap: &mut [u8],
-    slots: &mut [u32],
-    echo: &mut [u8],
-    body: &[u8],
-    text: &mut [u8],
-    at: &mut usize,
-) -> State
-    requires long { Long kind (length body.now) }
-    requires slots_value { body_right kind body.now (length slots.old) ≡ true }
-    ensures { Left
-        (kind_done kind state tables.old staging.old bitmap.old slots.old echo.old
-        body.now)
-        result tables.new staging.new bitmap.new slots.new echo.new }
-{
-    match kind {
-        stream::record::EVENT => event(rt, state, tables, slots, body, text, at),
-        stream::record::READING => reading(rt, state, body, text, at),
-        stream::record::LINE => line(rt, state, staging, bitmap, echo, body, text, at),
-        stream::record::CLOSE => close(rt, state, tables, staging, slots, body, text, at),
-        PACKAGE => package(rt, state, staging, bitmap, echo, body, text, at),
-        LISTING => {
-            listing(rt, state, tables, body, text, at);
-            state
+impl<'a> Aboard<'a> {
+    // One record, of which those of the ground change nothing aboard.
+    #[tactic(auto, unfolding(crate::specs::Calls::kind_done))]
+    pub fn carry_out(&mut self, kind: Kind, body: &[u8], text: &mut Text)
+        requires long { Long (kind_number kind) (length body.now) }
+        requires slots_value { body_right (kind_number kind) body.now (length self.old.slots.now) ≡ true }
+        ensures { Left
+            (kind_done (kind_number kind) self.old.state self.old.tables.now self.old.staging.now self.old.bitmap.now
+            self.old.slots.now self.old.echo.now body.now)
+            self.new.state self.new.tables.now self.new.staging.now self.new.bitmap.now self.new.slots.now self.new.echo.now }
+    {
+        match kind {
+            Kind::Event => event(&mut self.state, self.tables, self.slots, body, text),
+            Kind::Reading => reading(&mut self.state, body, text),
+            Kind::Line => line(
+                &mut self.state,
+                self.staging,
+                self.bitmap,
+                self.echo,
+                body,
+                text,
+            ),
+            Kind::Close => close(
+                &mut self.state,
+                self.tables,
+                self.staging,
+                self.slots,
+                body,
+                text,
+            ),
+            Kind::Package => package(
+                &mut self.state,
+                self.staging,
+                self.bitmap,
+                self.echo,
+                body,
+                text,
+            ),
+            Kind::Listing => listing(&mut self.state, self.tables, body, text),
+            Kind::State => self.state = hand_in(body, text),
+            Kind::Show => print_shown(text, &shown(self.state)),
+            Kind::Slots => hand_in_slots(self.slots, body, text),
+            _ => {}
         }
-        STATE => hand_in(rt, body, text, at),
-        SHOW => {
-            show(rt, state, text, at);
-            state
-        }
-        SLOTS => {
-            hand_in_slots(rt, slots, body, text, at);
-            state
-        }
-        _ => state,
     }
 }

@@ -2,88 +2,68 @@
 ghost use Rattle.std.specs.Prelude.{◌≡◌, length};
 ghost use Rattle.wire.specs.Bytes.{zeros};
 ghost use Rattle.gatherer.specs.GatherTheorems.{given, fresh_gatherer};
+ghost use Rattle.stream.specs.Kind.{kind_number};
 ghost use Rattle.replay_calls.specs.Ground.{gatherer, ground_out};
 
-use crate::records::{GATHER, GATHERED, PACKET, TO_FIRST, TO_SECOND};
-use gatherer::Gathered;
+use answers::listing::{print_gather, print_gathered, print_written};
+use answers::packets::print_packet;
+use buffered::text::Text;
+use gatherer::{Gathered, gather};
+use packet::layout::PACKET_BYTES;
+use stream::kind::Kind;
 
-// Bytes given to the gatherer.
-fn gather(
-    rt: &HostRuntime,
-    gathered: Gathered,
-    table: &mut [u8],
-    body: &[u8],
-    text: &mut [u8],
-    at: &mut usize,
-) -> Gathered
-    ensures { gatherer result table.new ≡ given (gatherer gathered table.old) body.now }
-{
-    let answer = gatherer::gather(gathered, body, table);
-    let after = answer.gathered;
-    let missing = gatherer::missing(after);
-    answers::listing::print_gather(rt, text, at, answer.number, missing);
-    after
-}
-
-// What was gathered is printed, and a fresh gatherer starts with a table of zeros.
-fn hand_over(
-    rt: &HostRuntime,
-    gathered: Gathered,
-    table: &mut [u8],
-    text: &mut [u8],
-    at: &mut usize,
-) -> Gathered
-    ensures { gatherer result table.new ≡ fresh_gatherer (zeros (length table.old)) }
-{
-    let missing = gatherer::missing(gathered);
-    answers::listing::print_gathered(rt, text, at, missing, table);
-    let n = table.len();
-    wire::write::put_zeros(table, 0, n);
-    gatherer::none()
+// What has come to the ground, and the table buffer that it is put into.
+#[derive(Drop)]
+pub struct Ground<'a> {
+    pub gathered: Gathered,
+    pub table: &'a mut [u8],
 }
 
 // Bytes converted to the second edition.
-fn to_second(rt: &HostRuntime, body: &[u8], text: &mut [u8], at: &mut usize) {
-    let mut out = [0u8; packet::layout::PACKET_BYTES];
-    let number = converter::to_second(body, &mut out);
-    answers::listing::print_written(rt, text, at, b"second", number, &out);
+fn to_second(body: &[u8], text: &mut Text) {
+    let mut out = [0u8; PACKET_BYTES];
+    let answer = converter::to_second(body, &mut out);
+    print_written(text, "second", answer, &out);
 }
 
 // And to the first.
-fn to_first(rt: &HostRuntime, body: &[u8], text: &mut [u8], at: &mut usize) {
-    let mut out = [0u8; packet::layout::PACKET_BYTES];
-    let number = converter::to_first(body, &mut out);
-    answers::listing::print_written(rt, text, at, b"first", number, &out);
+fn to_first(body: &[u8], text: &mut Text) {
+    let mut out = [0u8; PACKET_BYTES];
+    let answer = converter::to_first(body, &mut out);
+    print_written(text, "first", answer, &out);
 }
 
-// One record, of which those of the calls aboard, and what is read or converted, change nothing that is gathered.
-pub fn carry_out(
-    rt: &HostRuntime,
-    kind: u8,
-    gathered: Gathered,
-    table: &mut [u8],
-    body: &[u8],
-    text: &mut [u8],
-    at: &mut usize,
-) -> Gathered
-    ensures { gatherer result table.new
-        ≡ ground_out kind (gatherer gathered table.old) body.now }
-{
-    match kind {
-        PACKET => {
-            answers::packets::print_packet(rt, text, at, body);
-            gathered
+impl<'a> Ground<'a> {
+    // Bytes given to the gatherer.
+    fn gather(&mut self, body: &[u8], text: &mut Text)
+        ensures { gatherer self.new.gathered self.new.table.now ≡ given (gatherer self.old.gathered self.old.table.now) body.now }
+    {
+        let answer = gather(&mut self.gathered, body, self.table);
+        print_gather(text, answer, self.gathered.missing());
+    }
+
+    // What was gathered is printed, and a fresh gatherer starts with a table of zeros.
+    fn hand_over(&mut self, text: &mut Text)
+        ensures { gatherer self.new.gathered self.new.table.now ≡ fresh_gatherer (zeros (length self.old.table.now)) }
+    {
+        print_gathered(text, self.gathered.missing(), self.table);
+        self.table.fill(0);
+        self.gathered = Gathered::none();
+    }
+
+    // One record, of which those of the calls aboard, and what is read or converted, change nothing that is gathered.
+    #[tactic(auto, unfolding(crate::specs::Ground::ground_out))]
+    pub fn carry_out(&mut self, kind: Kind, body: &[u8], text: &mut Text)
+        ensures { gatherer self.new.gathered self.new.table.now
+            ≡ ground_out (kind_number kind) (gatherer self.old.gathered self.old.table.now) body.now }
+    {
+        match kind {
+            Kind::Packet => print_packet(text, body),
+            Kind::Gather => self.gather(body, text),
+            Kind::Gathered => self.hand_over(text),
+            Kind::ToSecond => to_second(body, text),
+            Kind::ToFirst => to_first(body, text),
+            _ => {}
         }
-        GATHER => gather(rt, gathered, table, body, text, at),
-        GATHERED => hand_over(rt, gathered, table, text, at),
-        TO_SECOND => {
-            to_second(rt, body, text, at);
-            gathered
-        }
-        TO_FIRST => {
-            to_first(rt, body, text, at);
-            gathered
-        }
-        _ => gathered,
     }
 }

@@ -1,59 +1,44 @@
 // The records of a list of calls.
-ghost use Rattle.std.specs.Prelude.{true, ◌≡◌, ◌≤◌, ◌<◌, length, get_or};
-ghost use Rattle.buffered.specs.Input.{Held, waiting_in};
+ghost use Rattle.std.specs.Prelude.{true, ◌≡◌, ◌≤◌, ◌<◌, length, get_or, unwrap_or};
 ghost use Rattle.image.specs.Layout.{image_bytes};
+ghost use Rattle.stream.specs.Kind.{kind_number};
 ghost use Rattle.replay_calls.specs.Record.{is_counted, Long, FirstOf, body_right};
 
 use buffered::input::Input;
-use stream::record::{Next, whole};
-
-// The kinds that only this program reads.
-pub const PACKAGE: u8 = 5;
-
-pub const PACKET: u8 = 6;
-
-pub const LISTING: u8 = 7;
-
-pub const GATHER: u8 = 8;
-
-pub const GATHERED: u8 = 9;
-
-pub const TO_SECOND: u8 = 10;
-
-pub const TO_FIRST: u8 = 11;
-
-pub const STATE: u8 = 20;
-
-pub const SHOW: u8 = 21;
-
-pub const SLOTS: u8 = 22;
+use buffered::text::Text;
+use image::layout::IMAGE_BYTES;
+use stream::kind::{BadRecord, Kind};
+use stream::record::{Next, fixed_bytes, whole};
+use wire::number::BigEndian;
 
 // A listing's body: which packet, and the time.
 const LISTING_BYTES: usize = 6;
 
 // Whether a body has its length in front.
-fn is_counted(kind: u8) -> bool
-    ensures { result ≡ is_counted kind }
-{
-    (kind == stream::record::LINE)
-        | (kind == PACKAGE)
-        | (kind == PACKET)
-        | (kind == GATHER)
-        | (kind == TO_SECOND)
-        | (kind == TO_FIRST)
-        | (kind == SLOTS)
-}
-
-// The length of a body that has none in front; 0 for no kind, and for the kinds that have no body.
-fn body_bytes(kind: u8) -> usize
-    ensures { (result ≤ image_bytes) × Long kind result }
+fn is_counted(kind: Kind) -> bool
+    ensures { result ≡ is_counted (kind_number kind) }
 {
     match kind {
-        LISTING => LISTING_BYTES,
-        GATHERED => 0,
-        STATE => image::layout::IMAGE_BYTES,
-        SHOW => 0,
-        _ => stream::record::fixed_bytes(kind),
+        Kind::Line
+        | Kind::Package
+        | Kind::Packet
+        | Kind::Gather
+        | Kind::ToSecond
+        | Kind::ToFirst
+        | Kind::Slots => true,
+        _ => false,
+    }
+}
+
+// The length of a body that has none in front.
+fn body_bytes(kind: Kind) -> Option<usize>
+    ensures { (unwrap_or result 0 ≤ image_bytes) × Long (kind_number kind) (unwrap_or result 0) }
+{
+    match kind {
+        Kind::Listing => Some(LISTING_BYTES),
+        Kind::State => Some(IMAGE_BYTES),
+        Kind::Gathered | Kind::Show => Some(0),
+        _ => fixed_bytes(kind),
     }
 }
 
@@ -61,57 +46,45 @@ fn body_bytes(kind: u8) -> usize
 const COUNTED: usize = 3;
 
 // A record whose body has its length in front, in two bytes.
-fn counted(
-    rt: &HostRuntime,
-    buffer: &mut [u8],
-    input: Input,
-    kind: u8,
-    text: &[u8],
-    at: &mut usize,
-) -> Next
-    requires held { Held input buffer.old }
-    requires kind_value { is_counted kind ≡ true }
-    requires at_lt_end { (input.at < input.end) × (get_or buffer.old input.at 0 ≡ kind) }
-    ensures { FirstOf result (waiting_in input buffer.old) buffer.new }
+fn counted(input: &mut Input, kind: Kind, text: &mut Text) -> Next
+    requires kind_value { is_counted (kind_number kind) ≡ true }
+    requires at_lt_end { (0 < length input.old) × (get_or input.old 0 0 ≡ kind_number kind) }
+    ensures { FirstOf result input.old input.new }
 {
-    let three = buffered::input::fill(rt, buffer, input, COUNTED, text, at);
-    let start = three.at;
-    if three.end - start < COUNTED {
-        return Next::Bad;
+    input.fill(COUNTED, text);
+    let waiting = input.waiting();
+    if waiting.len() < COUNTED {
+        return Err(BadRecord);
     }
-    let n = wire::read::u16_at(buffer, start + 1);
-    whole(rt, buffer, three, kind, COUNTED, n as usize, text, at)
+    let n = u16::read(waiting, 1);
+    whole(input, kind, COUNTED, usize::from(n), text)
 }
 
 // The record that stands next in the input.
-pub fn next(rt: &HostRuntime, buffer: &mut [u8], input: Input, text: &[u8], at: &mut usize) -> Next
-    requires { Held input buffer.old }
-    ensures { FirstOf result (waiting_in input buffer.old) buffer.new }
+pub fn next(input: &mut Input, text: &mut Text) -> Next
+    ensures { FirstOf result input.old input.new }
 {
-    let one = buffered::input::fill(rt, buffer, input, 1, text, at);
-    let start = one.at;
-    if one.end == start {
-        return Next::End;
-    }
-    let kind = buffer[start];
+    input.fill(1, text);
+    let Some(first) = input.waiting().first() else {
+        return Ok(None);
+    };
+    let kind = Kind::try_from(*first)?;
     if is_counted(kind) {
-        return counted(rt, buffer, one, kind, text, at);
+        return counted(input, kind, text);
     }
-    let n = body_bytes(kind);
-    if (n == 0) & (kind != GATHERED) & (kind != SHOW) {
-        return Next::Bad;
-    }
-    whole(rt, buffer, one, kind, 1, n, text, at)
+    let n = body_bytes(kind).ok_or(BadRecord)?;
+    whole(input, kind, 1, n, text)
 }
 
 // Whether a body can be carried out: the bytes of a state are one, and slots come for all of so many.
-pub fn is_right(kind: u8, body: &[u8], slots: usize) -> bool
-    requires { Long kind (length body.now) }
-    ensures { result ≡ body_right kind body.now slots }
+#[tactic(auto, unfolding(crate::specs::Record::body_right))]
+pub fn is_right(kind: Kind, body: &[u8], slots: usize) -> bool
+    requires { Long (kind_number kind) (length body.now) }
+    ensures { result ≡ body_right (kind_number kind) body.now slots }
 {
     match kind {
-        STATE => image::judge::is_state(body),
-        SLOTS => (body.len() % 4 == 0) & (body.len() / 4 == slots),
+        Kind::State => image::judge::is_state(body),
+        Kind::Slots => (body.len() % 4 == 0) & (body.len() / 4 == slots),
         _ => true,
     }
 }

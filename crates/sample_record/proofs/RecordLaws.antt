@@ -1,9 +1,11 @@
 -- A packed record gives back its fields, and is zero only without a box. Assumes nothing.
-use mathlib.Core.Path.{◌≡◌}
+use mathlib.Core.Path.{◌≡◌, refl}
+use mathlib.Core.Bool.{Bool, true, false}
 use Prim.Native.Nat.{ℕ, ◌*◌, ◌/◌, ◌%◌, ◌^◌, ◌≤◌, ◌<◌}
 use native.Mathlib.Nat.{mod-eq_of_lt, one-mul}
 use native.Mathlib.Omega.{arith}
 use lib.Pow.{pow-lt}
+use mir.Val.{bool_byte}
 use Rattle.sample_record.specs.declared.Sample.{Sample}
 use Rattle.wire.specs.Bits.{bit_of}
 use Rattle.wire.proofs.BitLaws.{bit_small, bit_back}
@@ -12,6 +14,11 @@ use Rattle.sample_record.specs.Record.{SampleFits, record_of, sample_of, record_
 -- one shifted left by fewer than 32 does not wrap
 pub mask : (k : ℕ) → k < 32 → 1 * 2 ^ k % 4294967296 ≡ 2 ^ k
 mask k h = rw (one-mul, mod-eq_of_lt (pow-lt h))
+
+-- a flag as a number is its bit
+pub flag_is : (b : Bool) → bool_byte b ≡ bit_of b
+flag_is true = refl
+flag_is false = refl
 
 -- ---- a record taken apart
 

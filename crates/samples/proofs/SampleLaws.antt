@@ -12,6 +12,9 @@ use lib.ListN.{length, set, take, drop, replicate}
 use lib.ListN.{length-take, length-append, length-drop, length-map, drop_of_length-le}
 use lib.Seq.{length-take-le, take_all, take-nil, take_at, take-append-le, drop_at, drop-drop, drop-append-le}
 use lib.Seq.{append_snoc, set_split, paste-zero}
+use Rattle.std.specs.Prelude.{count_by}
+use Rattle.std.specs.List.{filter}
+use Rattle.std.proofs.lemmas.List.Sums.{length-filter}
 use Rattle.wire.specs.Lists.{join_if, keep}
 use Rattle.wire.specs.Pieces.{padded}
 use Rattle.wire.proofs.Lists.{keep_append, keep_one, length_keep}
@@ -252,6 +255,19 @@ module _ {A : Type 0} (p : A → Bool) (rec : A → ℕ) (N lim : ℕ) (q : lim 
   place_agrees l e = place_agrees_from [] 0 (omega arith) l e
 
 -- ---- how many slots are filled
+
+-- as std counts them
+pub filled_count : (l : List ℕ) → count_by (ltb 0) l ≡ filled l
+unfolding filled keep
+filled_count l = sym (length-filter (ltb 0) l) ∙ ap (λ (m : List ℕ). length m) (kept l)
+  where
+    join : (b : Bool) (x : ℕ) (xs : List ℕ) → cond b (x ∷ xs) xs ≡ join_if b x xs
+    join true x xs = refl
+    join false x xs = refl
+
+    kept : (l : List ℕ) → filter (ltb 0) l ≡ keep (ltb 0) l
+    kept [] = refl
+    kept (x ∷ xs) = join (ltb 0 x) x (filter (ltb 0) xs) ∙ ap (join_if (ltb 0 x) x) (kept xs)
 
 filled_append : (a b : List ℕ) → filled (a ++ b) ≡ filled a + filled b
 unfolding filled

@@ -1,26 +1,24 @@
 // An event among the samples: its record goes to its slot, if it is eligible.
-ghost use Rattle.std.specs.Prelude.{◌≡◌, true, ◌≤◌, length};
+ghost use Rattle.std.specs.Prelude.{◌≡◌, ◌≤◌, length};
 ghost use Rattle.sort.specs.Boxes.{OutcomeNames};
-ghost use Rattle.sort.specs.Event.{in_range};
 ghost use Rattle.samples.specs.Selection.{slots_taken, use_taken};
 
 use crate::slots::SlotUse;
 use settings::Settings;
-use sort::event::Event;
+use sort::ranged::Ranged;
 use sort::sorting::Outcome;
 
-// There are as many slots as are lent.
-pub fn select(kept: SlotUse, s: Settings, slots: &mut [u32], e: Event, o: Outcome) -> SlotUse
-    requires limhi_in_bounds { s.limhi ≤ length slots.old }
-    requires e_value { (in_range e ≡ true) × OutcomeNames o }
-    ensures slots { slots.new ≡ slots_taken (length slots.old) kept s slots.old e o }
-    ensures kept { result ≡ use_taken (length slots.old) kept s o }
-{
-    if !crate::eligible(s.junk, o) {
-        return kept;
+impl SlotUse {
+    // There are as many slots as are lent. LIMHI is bounded by what is lent, so no type holds it.
+    pub fn select(&mut self, s: Settings, slots: &mut [u32], e: Ranged, o: Outcome)
+        requires limhi_in_bounds { s.limhi ≤ length slots.old }
+        requires outcome_names { OutcomeNames o }
+        ensures slots { slots.new ≡ slots_taken (length slots.old) self.old s slots.old e o }
+        ensures kept { self.new ≡ use_taken (length slots.old) self.old s o }
+    {
+        if crate::eligible(s.junk, o) {
+            let word = crate::record_of(e, o);
+            self.place(slots, usize::from(s.limhi), word, crate::priority_of(o));
+        }
     }
-    let limhi = s.limhi as usize;
-    let word = crate::record_of(e, o);
-    let priority = crate::priority_of(o);
-    crate::slots::place(slots, kept, limhi, word, priority)
 }

@@ -9,32 +9,21 @@ pub struct SlotUse {
     pub replaced: usize,
 }
 
-// A record, as a 32-bit word, goes into the first free slot. When none is free, one of priority 1 goes into the next slot to
-// replace, as long as LIMHI allows it. Any other drops out.
-pub fn place(slots: &mut [u32], kept: SlotUse, limhi: usize, word: u32, priority: bool) -> SlotUse
-    requires { limhi ≤ length slots.old }
-    ensures slots { slots.new ≡ slots_after (place_of (length slots.old) kept limhi priority)
-        slots.old kept word }
-    ensures kept { result ≡ use_after (place_of (length slots.old) kept limhi priority) kept }
-{
-    let count = slots.len();
-    let used = kept.used;
-    let replaced = kept.replaced;
-    if used < count {
-        slots[used] = word;
-        return SlotUse {
-            used: used + 1,
-            replaced,
-        };
-    }
-    if priority {
-        if replaced < limhi {
-            slots[replaced] = word;
-            return SlotUse {
-                used,
-                replaced: replaced + 1,
-            };
+impl SlotUse {
+    // A record, as a 32-bit word, goes into the first free slot. When none is free, one of priority 1 goes into the next slot
+    // to replace, as long as LIMHI allows it. Any other drops out.
+    #[tactic(auto, unfolding(crate::specs::Samples::place_of))]
+    pub fn place(&mut self, slots: &mut [u32], limhi: usize, word: u32, priority: bool)
+        requires { limhi ≤ length slots.old }
+        ensures slots { slots.new ≡ slots_after (place_of (length slots.old) self.old limhi priority) slots.old self.old word }
+        ensures kept { self.new ≡ use_after (place_of (length slots.old) self.old limhi priority) self.old }
+    {
+        if self.used < slots.len() {
+            slots[self.used] = word;
+            self.used += 1;
+        } else if priority && self.replaced < limhi {
+            slots[self.replaced] = word;
+            self.replaced += 1;
         }
     }
-    kept
 }

@@ -1,10 +1,10 @@
-// Waiting commands change one settings record in place, one command at a time.
+// Waiting commands change one settings record in place, one command at a time. The paper names both forms: the thin function over the
+// lent record, and the core by value behind it.
 #![tactic(auto)]
 
 ghost use Rattle.std.specs.Prelude.{◌≡◌};
 ghost use Rattle.command.specs.Change.{settings_after};
 
-use command::apply::applied;
 use command::command::Command;
 use settings::Settings;
 
@@ -12,7 +12,7 @@ use settings::Settings;
 pub fn apply_to(s: &mut Settings, c: Command)
     ensures { s.new ≡ settings_after s.old c }
 {
-    *s = applied(*s, c);
+    *s = c.applied(*s);
 }
 
 // The settings after the command, by way of a local record that is lent. Callers whose settings are a value use this one.

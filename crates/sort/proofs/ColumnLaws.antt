@@ -1,28 +1,17 @@
 -- Laws of the columns: the quotient rounded down, its sign and its range. Assumes nothing.
-use mathlib.Core.Path.{◌≡◌, refl, sym, ap, ◌∙◌, subst}
-use mathlib.Core.Bool.{Bool, true, false, cond}
+use mathlib.Core.Path.{◌≡◌, refl, sym, ap, ◌∙◌}
+use mathlib.Core.Bool.{Bool, true, false}
 use Prim.Native.Nat.{ℕ, zero, suc, ◌+◌, ◌-◌, ◌/◌, ◌^◌, ◌≤◌, ◌<◌}
-use lib.Dec.{leb, ltb}
+use lib.Dec.{ltb, leb→le, ltb→lt}
 use native.Mathlib.Omega.{arith}
-use lib.IntN.{ℤ, pos, negsuc, neg_ℤ, sub_ℕ, ◌+ℤ◌, ◌-ℤ◌, +ℤ_assoc, +ℤ_comm, neg_ℤ-+ℤ}
-use lib.Signed.{non_neg}
-use mir.Syntax.{w32}
-use mir.Val.{SFits, to_z, of_z}
+use lib.IntN.{ℤ, pos, negsuc, nat_abs, neg_ℤ, sub_ℕ, ◌+ℤ◌, ◌-ℤ◌, +ℤ_assoc, +ℤ_comm, neg_ℤ-+ℤ}
+use lib.Signed.{◌<ℤ◌, ◌≤ℤ◌, non_neg}
 use mir.ValLaws.{to_z-of_z, to_z_pos}
-use borrow.Author.Tests.{lt-ltb, le-ltb, ltb-true, ltb-false, leb-true}
-use Rattle.sort.specs.declared.columns.Column.{Column}
-use Rattle.sort.specs.declared.columns.Column.TheVariants.{Inside, Outside}
+use borrow.Author.Tests.{lt-ltb, le-ltb, ltb-true, ltb-false, le-leb, lt-leb}
+use Rattle.std.specs.Prelude.{Some, None}
 use Rattle.sort.specs.Columns.{floor_z, u_of, mass_column, energy_column, bounded}
 
 -- ---- signed differences
-
--- -1 - q and -1 - (-(a + 1))
-pub less_pos : (q : ℕ) → negsuc 0 -ℤ pos q ≡ negsuc q
-less_pos zero = refl
-less_pos (suc q) = ap negsuc (omega arith)
-
-pub less_neg : (a : ℕ) → negsuc 0 -ℤ negsuc a ≡ pos a
-less_neg a = rw (le-ltb (suc a) 1 (omega arith)) (ap pos (omega arith))
 
 -- a - b, below and above 0
 pub sub_below : (a b : ℕ) → a < b → sub_ℕ a b ≡ negsuc (b - a - 1)
@@ -103,30 +92,20 @@ energy_range t f ht hf =
 
 -- ---- a column inside the matrix
 
-abbrev pub inside_of : ℕ → Column → Type 0
-inside_of n (Inside m) = m ≤ n
-inside_of n Outside = Unit {0}
-
-pub bounded_inside : (z : ℤ) → inside_of 127 (bounded z)
+pub inside_is : (z : ℤ) → pos 0 ≤ℤ z → z <ℤ pos 128 → Some (nat_abs z) ≡ bounded z
 unfolding bounded
-bounded_inside (pos a) = go (leb a 127) refl
-  where
-    go : (t : Bool) → leb a 127 ≡ t → inside_of 127 (cond t (Inside a) Outside)
-    go true q = leb-true a 127 q
-    go false q = tt
-bounded_inside (negsuc a) = tt
+inside_is (pos a) h k = let q : a < 128 = ltb→lt a 128 k.lt in rw (le-leb a 127 (omega arith))
+inside_is (negsuc a) h k = absurd h.le
 
-pub inside_most : (z : ℤ) (m : ℕ) → bounded z ≡ Inside m → m ≤ 127
-inside_most z m e = subst (inside_of 127) e (bounded_inside z)
+pub below_is : (z : ℤ) → z <ℤ pos 0 → None ≡ bounded z
+unfolding bounded
+below_is (pos a) h = let q : a < 0 = ltb→lt a 0 h.lt in absurd (omega arith)
+below_is (negsuc a) h = refl
 
--- ---- the machine's -1 - q, for a q that fits
+pub above_is : (z : ℤ) → pos 128 ≤ℤ z → None ≡ bounded z
+unfolding bounded
+above_is (pos a) h = let q : 128 ≤ a = leb→le 128 a h.le in rw (lt-leb a 127 (omega arith))
+above_is (negsuc a) h = absurd h.le
 
-module _ (q : ℕ) (h : q < 2 ^ 31) where
-  less_is : negsuc 0 -ℤ to_z w32 q ≡ negsuc q
-  less_is = ap (λ (z : ℤ). negsuc 0 -ℤ z) (to_z_pos w32 q h) ∙ less_pos q
-
-  pub less_fits : SFits w32 (negsuc 0 -ℤ to_z w32 q)
-  less_fits = rw less_is record { sfits = h }
-
-  pub less_back : to_z w32 (of_z w32 (negsuc 0 -ℤ to_z w32 q)) ≡ negsuc q
-  less_back = to_z-of_z w32 _ less_fits ∙ less_is
+-- by these a column of the machine is that of the definitions
+pub ruleset columns = (to_z-of_z, mass_sub, energy_sub, inside_is, below_is, above_is)

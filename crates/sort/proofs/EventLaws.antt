@@ -10,16 +10,14 @@ use borrow.Author.Tests.{leb-true, ltb-false}
 use Rattle.wire.proofs.Lists.{and_split}
 use Rattle.settings.specs.declared.Settings.{Settings}
 use Rattle.boxes.specs.Boxes.{box_count, beacon_count, junk_box}
-use Rattle.sort.specs.declared.columns.Column.{Column}
-use Rattle.sort.specs.declared.columns.Column.TheVariants.{Inside, Outside}
+use Rattle.std.specs.Prelude.{Option, Some, None, IfSome}
 use Rattle.sort.specs.declared.event.Event.{Event}
 use Rattle.sort.specs.declared.sorting.Outcome.{Outcome}
 use Rattle.sort.specs.declared.sorting.Outcome.TheVariants.{Discarded}
-use Rattle.sort.specs.declared.sorting.Words.{Words}
 use Rattle.sort.specs.Columns.{u_of, mass_column, energy_column, bounded}
 use Rattle.sort.specs.Event.{in_range, gain_of, channel_of}
 use Rattle.sort.specs.Matrix.{box_used, beacon_used, matrix_of, cell_of}
-use Rattle.sort.specs.Sorting.{discards, event_words, located, in_matrix, outcome_of}
+use Rattle.sort.specs.Sorting.{Words, discards, event_words, located, in_matrix, outcome_of}
 use Rattle.sort.specs.Boxes.{CellNames, OutcomeNames}
 
 -- the fields of an event in range
@@ -37,7 +35,7 @@ channel_fits e h = go (gain_of e) refl
     go true q = omega (arith, in_range_lem e h)
     go false q = omega (arith, ltb-false 2047 e.high q)
 
--- a cell names a box from 7 to 116 and at most beacon 12
+-- a cell names a box from 7 to 116, and a beacon from 1 to 12 if it names one
 pub box_used_lem : (b : ℕ) → (junk_box ≤ box_used b) × (box_used b ≤ box_count)
 box_used_lem b = go (leb junk_box b && leb b box_count) refl
   where
@@ -45,12 +43,12 @@ box_used_lem b = go (leb junk_box b && leb b box_count) refl
     go true q = let p = and_split (leb junk_box b) (leb b box_count) q in (leb-true _ _ p.0, leb-true _ _ p.1)
     go false q = omega arith
 
-pub beacon_used_lem : (n : ℕ) → beacon_used n ≤ beacon_count
-beacon_used_lem n = go (leb n beacon_count) refl
+pub beacon_used_lem : (n : ℕ) → IfSome (beacon_used n) (λ b. (1 ≤ b) × (b ≤ beacon_count))
+beacon_used_lem n = go (leb 1 n && leb n beacon_count) refl
   where
-    go : (t : Bool) → leb n beacon_count ≡ t → cond t n 0 ≤ beacon_count
-    go true q = leb-true _ _ q
-    go false q = omega arith
+    go : (t : Bool) → (leb 1 n && leb n beacon_count) ≡ t → IfSome (cond t (Some n) None) (λ b. (1 ≤ b) × (b ≤ beacon_count))
+    go true q = let p = and_split (leb 1 n) (leb n beacon_count) q in (leb-true _ _ p.0, leb-true _ _ p.1)
+    go false q = tt
 
 pub cell_names : (m : List ℕ) (i j : ℕ) → CellNames (cell_of m i j)
 unfolding cell_of
@@ -59,10 +57,10 @@ cell_names m i j =
     let b = box_used_lem (get_or m at 0 % 128) in
     (b.0, b.1, beacon_used_lem (get_or m (at + 1) 0))
 
-located_names : (gain : Bool) (a b : Column) (m : List ℕ) → OutcomeNames (located gain a b m)
-located_names gain (Inside i) (Inside j) m = cell_names m i j
-located_names gain (Inside i) Outside m = tt
-located_names gain Outside b m = tt
+located_names : (gain : Bool) (a b : Option ℕ) (m : List ℕ) → OutcomeNames (located gain a b m)
+located_names gain (Some i) (Some j) m = cell_names m i j
+located_names gain (Some i) None m = tt
+located_names gain None b m = tt
 
 in_matrix_names : (gain : Bool) (w : Words) (m : List ℕ) → OutcomeNames (in_matrix gain w m)
 unfolding in_matrix

@@ -1,3 +1,2 @@
 pub mod ColumnLaws
 pub mod EventLaws
-pub mod MachineDivision

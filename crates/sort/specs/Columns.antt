@@ -1,7 +1,5 @@
 -- The two columns (document 01, "One event", rules 3 and 4). Assumes nothing.
-use Rattle.std.specs.Prelude.{cond, List, [], ◌∷◌, ℕ, ◌/◌, leb, ℤ, pos, negsuc, ◌+ℤ◌, ◌-ℤ◌}
-use Rattle.sort.specs.declared.columns.Column.{Column}
-use Rattle.sort.specs.declared.columns.Column.TheVariants.{Inside, Outside}
+use Rattle.std.specs.Prelude.{cond, List, [], ◌∷◌, ℕ, ◌/◌, leb, ℤ, pos, negsuc, ◌+ℤ◌, ◌-ℤ◌, Option, Some, None}
 
 -- "Floor goes towards minus infinity": -(a + 1) is negsuc a, and its quotient is -(a / d + 1)
 abbrev pub floor_z : ℤ → ℕ → ℤ
@@ -21,9 +19,9 @@ unfoldable pub energy_column : (t ktof : ℕ) → ℤ
 energy_column t ktof = floor_z (pos ktof +ℤ pos 360448 -ℤ pos t) 4096
 
 -- rule 4: a column from 0 to 127 is inside the matrix
-unfoldable pub bounded : ℤ → Column
-bounded (pos a) = cond (leb a 127) (Inside a) Outside
-bounded (negsuc a) = Outside
+unfoldable pub bounded : ℤ → Option ℕ
+bounded (pos a) = cond (leb a 127) (Some a) None
+bounded (negsuc a) = None
 
 -- "At u = 3,584 the column .. is 1; at 458,751 it is 127 and at 458,752 out of bounds .. and by −1 (column −1), 0 and 3,583 (column 0)"
 -- (document 02, Point 2): u, and its column

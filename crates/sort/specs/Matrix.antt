@@ -1,5 +1,5 @@
 -- The matrix and its cells (document 01, "The lookup tables" and "One event", rule 5). Assumes nothing.
-use Rattle.std.specs.Prelude.{◌&&◌, cond, List, ℕ, ◌+◌, ◌-◌, ◌*◌, ◌%◌, leb, take, drop, get_or}
+use Rattle.std.specs.Prelude.{◌&&◌, cond, List, ℕ, ◌+◌, ◌-◌, ◌*◌, ◌%◌, leb, take, drop, get_or, Option, Some, None}
 use Rattle.boxes.specs.Boxes.{box_count, beacon_count, junk_box}
 use Rattle.tables.specs.Tables.{byte_of, matrix, time_of_flight}
 use Rattle.sort.specs.declared.matrix.Cell.{Cell}
@@ -15,9 +15,9 @@ matrix_of tables = take matrix_bytes (drop (byte_of matrix) tables)
 abbrev pub box_used : ℕ → ℕ
 box_used b = cond (leb junk_box b && leb b box_count) b junk_box
 
--- "beacon 1 to 12 if the cell names one": 0 is none
-abbrev pub beacon_used : ℕ → ℕ
-beacon_used n = cond (leb n beacon_count) n 0
+-- "beacon 1 to 12 if the cell names one"
+abbrev pub beacon_used : ℕ → Option ℕ
+beacon_used n = cond (leb 1 n && leb n beacon_count) (Some n) None
 
 -- "cell 128 × f_m + f_e": "first byte is priority (128) plus box (low seven bits); its second is the beacon number"
 unfoldable pub cell_of : List ℕ → (mass energy : ℕ) → Cell

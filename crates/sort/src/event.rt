@@ -26,23 +26,25 @@ pub const LAST_LOW: u16 = 2047;
 
 pub const LAST_HIGH_GAIN: u16 = 2047;
 
-// Whether every field is in its range, that of the channel which is not used too.
-pub fn in_range(e: Event) -> bool
-    ensures { result ≡ in_range e }
-{
-    (e.t <= LAST_T) & (e.high <= LAST_HIGH) & (e.low <= LAST_LOW)
-}
+impl Event {
+    // Whether every field is in its range, that of the channel which is not used too.
+    pub fn in_range(&self) -> bool
+        ensures { result ≡ in_range self.now }
+    {
+        (self.t <= LAST_T) & (self.high <= LAST_HIGH) & (self.low <= LAST_LOW)
+    }
 
-// The gain bit: true where the low-gain channel is used.
-pub fn gain(e: Event) -> bool
-    ensures { result ≡ gain_of e }
-{
-    LAST_HIGH_GAIN < e.high
-}
+    // The gain bit: true where the low-gain channel is used.
+    pub fn gain(&self) -> bool
+        ensures { result ≡ gain_of self.now }
+    {
+        LAST_HIGH_GAIN < self.high
+    }
 
-// The channel used, by the gain bit.
-pub fn channel(e: Event) -> u16
-    ensures { result ≡ channel_of e }
-{
-    if gain(e) { e.low } else { e.high }
+    // The channel used, by the gain bit.
+    pub fn channel(&self) -> u16
+        ensures { result ≡ channel_of self.now }
+    {
+        if self.gain() { self.low } else { self.high }
+    }
 }

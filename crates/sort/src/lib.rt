@@ -4,4 +4,6 @@
 pub mod columns;
 pub mod event;
 pub mod matrix;
+pub mod ranged;
 pub mod sorting;
+pub mod words;

@@ -1,42 +1,49 @@
 // The matrix: 128 by 128 cells of three bytes, the part of the tables from address 8000 on.
-ghost use Rattle.std.specs.Prelude.{◌≡◌, ◌+◌, ◌*◌, ◌≤◌, ◌<◌, length};
+ghost use Rattle.std.specs.Prelude.{◌≡◌, ◌+◌, ◌*◌, ◌≤◌, ◌<◌, length, IfSome};
+ghost use Rattle.boxes.specs.Boxes.{box_count, beacon_count, junk_box};
+ghost use Rattle.sort.specs.Boxes.{CellNames};
 ghost use Rattle.sort.specs.Matrix.{matrix_bytes, cell_of, box_used, beacon_used};
 
 use boxes::{JUNK_BOX, LAST_BEACON, LAST_BOX};
 
-// What a cell says: a rate box from 7 to 116, the priority, and a beacon from 1 to 12, or 0 for none.
+// What a cell says: a rate box from 7 to 116, the priority, and a beacon from 1 to 12 if it names one.
 #[derive(Clone, Copy)]
 pub struct Cell {
     pub ratebox: u8,
     pub priority: bool,
-    pub beacon: u8,
+    pub beacon: Option<u8>,
 }
 
 pub const COLUMNS: usize = 128;
 
 // A box outside 7 to 116 is the junk box.
 fn box_used(b: u8) -> u8
-    ensures { result ≡ box_used b }
+    ensures { (result ≡ box_used b) × (junk_box ≤ result) × (result ≤ box_count) }
 {
-    if (JUNK_BOX <= b) & (b <= LAST_BOX) {
-        b
-    } else {
-        JUNK_BOX
+    match b {
+        JUNK_BOX..=LAST_BOX => b,
+        _ => JUNK_BOX,
     }
 }
 
-// A beacon number over 12 names none.
-fn beacon_used(n: u8) -> u8
-    ensures { result ≡ beacon_used n }
+// A beacon number of 0 or over 12 names none.
+fn beacon_used(n: u8) -> Option<u8>
+    ensures beacon { result ≡ beacon_used n }
+    ensures names { IfSome result (λ b. (1 ≤ b) × (b ≤ beacon_count)) }
 {
-    if n <= LAST_BEACON { n } else { 0 }
+    match n {
+        1..=LAST_BEACON => Some(n),
+        _ => None,
+    }
 }
 
 // The cell of a mass and an energy column.
+#[tactic(auto, unfolding(crate::specs::Matrix::cell_of))]
 pub fn cell_at(matrix: &[u8], mass: usize, energy: usize) -> Cell
     requires matrix_len { length matrix.now ≡ matrix_bytes }
     requires mass_bound { (mass ≤ 127) × (energy ≤ 127) }
-    ensures { result ≡ cell_of matrix.now mass energy }
+    ensures cell { result ≡ cell_of matrix.now mass energy }
+    ensures names { CellNames result }
 {
     let at = 3 * (COLUMNS * mass + energy);
     let first = matrix[at];

@@ -2,8 +2,7 @@
 // from the papers by other means.
 #![tactic(auto)]
 
-ghost use Rattle.std.specs.Prelude.{◌+◌, ◌*◌, ◌≤◌, ◌<◌, ◌≡◌, length, true};
-ghost use Rattle.sort.specs.Event.{in_range};
+ghost use Rattle.std.specs.Prelude.{◌+◌, ◌*◌, ◌≤◌, ◌<◌, ◌≡◌, length};
 ghost use Rattle.tables.specs.Tables.{table_bytes};
 
 use boxes::{BEACONS, BOXES};
@@ -12,6 +11,7 @@ use sample_record::Sample;
 use samples::slots::SlotUse;
 use settings::Settings;
 use sort::event::Event;
+use sort::ranged::Ranged;
 
 // Each event: t, high, low, flags (FLG0 1, FLG1 2, error 4, valid stop 8), settings (Eonly 1, toferror 2, junk 4).
 const EVENTS: [u16; 80] = [
@@ -73,10 +73,8 @@ fn fill(tables: &mut [u8])
     requires { length tables.old ≡ table_bytes }
     ensures { length tables.new ≡ table_bytes }
 {
-    let mut i: usize = 0;
-    while i < 20995 {
+    for i in 0..20995 {
         wire::write::put_u24(tables, 3 * i, case_word(i));
-        i += 1;
     }
 }
 
@@ -111,35 +109,28 @@ fn settings_of(bits: u16) -> Settings {
 
 // The numbers, counted from 1, of the counts that are not 0.
 fn counted_numbers(counts: &[u32]) {
-    let mut i: usize = 0;
-    while i < counts.len() {
-        if counts[i] != 0 {
+    for (i, count) in counts.iter().enumerate() {
+        if *count != 0 {
             number(i as u64 + 1);
         }
-        i += 1;
     }
 }
 
 fn flag(b: bool) {
-    if b {
-        number(1);
-    } else {
-        number(0);
-    }
+    number(u64::from(b));
 }
 
 // Box, priority, whether it is eligible, the record, the boxes and the beacons that it counts in.
-fn show_sorted(s: Settings, tables: &[u8], e: Event)
-    requires tables_len { length tables.now ≡ table_bytes }
-    requires e_value { in_range e ≡ true }
+fn show_sorted(s: Settings, tables: &[u8], e: Ranged)
+    requires { length tables.now ≡ table_bytes }
 {
     let o = sort::sorting::outcome_of(s, tables, e);
     let word = samples::record_of(e, o);
-    let none = Counts {
+    let mut c = Counts {
         boxes: [0u32; BOXES],
         beacons: [0u32; BEACONS],
     };
-    let c = counts::counted(none, o);
+    c.count(o);
     number(samples::box_of(o) as u64);
     flag(samples::priority_of(o));
     flag(samples::eligible(s.junk, o));
@@ -155,8 +146,8 @@ fn show(s: Settings, tables: &[u8], e: Event)
     requires { length tables.now ≡ table_bytes }
 {
     io::write_all(STDOUT_FILENO, b"event");
-    if sort::event::in_range(e) {
-        show_sorted(s, tables, e);
+    if e.in_range() {
+        show_sorted(s, tables, Ranged { event: e });
     } else {
         number(2);
     }
@@ -176,10 +167,8 @@ fn show_event(tables: &[u8], at: usize)
 fn show_events(tables: &[u8])
     requires { length tables.now ≡ table_bytes }
 {
-    let mut i: usize = 0;
-    while i < 16 {
+    for i in 0..16 {
         show_event(tables, 5 * i);
-        i += 1;
     }
 }
 
@@ -197,7 +186,7 @@ fn show_record() {
     });
     io::write_all(STDOUT_FILENO, b"record ");
     io::print_hex(STDOUT_FILENO, word as u64, 8);
-    let s = sample_record::unpack(word);
+    let s = Sample::from(word);
     number(s.t as u64);
     number(s.channel as u64);
     flag(s.flg0);
@@ -217,20 +206,16 @@ fn place_all(slots: &mut [u32], limhi: usize)
         used: 0,
         replaced: 0,
     };
-    let mut i: u32 = 0;
-    while i < 710 {
-        kept = samples::slots::place(slots, kept, limhi, i + 1, i % 2 == 0);
-        i += 1;
+    for i in 0..710 {
+        kept.place(slots, limhi, i + 1, i % 2 == 0);
     }
     number(kept.used as u64);
     number(kept.replaced as u64);
 }
 
 fn show_slots(slots: &[u32]) {
-    let mut i: usize = 0;
-    while i < slots.len() {
-        number(slots[i] as u64);
-        i += 1;
+    for slot in slots {
+        number(u64::from(*slot));
     }
 }
 

@@ -1,7 +1,7 @@
 // The interval: what its events and its second readings have come to.
 ghost use Rattle.std.specs.Prelude.{◌≡◌, ◌&&◌};
 ghost use Rattle.wire.specs.Lists.{all, at_most};
-ghost use Rattle.state.specs.Interval.{no_counts, fresh_interval, counts_within, slots_within, readings_within};
+ghost use Rattle.state.specs.Interval.{no_counts, fresh_interval, counts_within, slots_within, readings_within, interval_within};
 
 use boxes::{BEACONS, BOXES, TOTALS};
 use counts::Counts;
@@ -19,7 +19,7 @@ pub struct Interval {
     pub totals: [u32; TOTALS],
 }
 
-pub const MOST_EVENTS: u32 = 1000000;
+pub const MOST_EVENTS: u32 = 1_000_000;
 
 pub const MOST_READINGS: u32 = 60;
 
@@ -27,8 +27,8 @@ pub fn no_counts() -> Counts
     ensures { result ≡ no_counts }
 {
     Counts {
-        boxes: [0u32; BOXES],
-        beacons: [0u32; BEACONS],
+        boxes: [0; BOXES],
+        beacons: [0; BEACONS],
     }
 }
 
@@ -36,68 +36,62 @@ pub fn no_counts() -> Counts
 pub fn fresh() -> Interval
     ensures { result ≡ fresh_interval }
 {
-    let counts = no_counts();
-    let samples = SlotUse {
-        used: 0,
-        replaced: 0,
-    };
     Interval {
         taken: 0,
-        counts: counts,
-        samples: samples,
+        counts: no_counts(),
+        samples: SlotUse {
+            used: 0,
+            replaced: 0,
+        },
         readings: 0,
-        totals: [0u32; TOTALS],
+        totals: [0; TOTALS],
     }
 }
 
 // Whether each number is at most the limit, without early exit so that the scan vectorises.
-fn all_at_most(a: &[u32], limit: u32) -> bool
-    ensures { result ≡ all (at_most limit) a.now }
+fn all_at_most(numbers: &[u32], limit: u32) -> bool
+    ensures { result ≡ all (at_most limit) numbers.now }
 {
     let mut ok = true;
-    let mut i: usize = 0;
-    while i < a.len() {
-        ok = ok & (a[i] <= limit);
-        i += 1;
+    for number in numbers {
+        ok = ok & (*number <= limit);
     }
     ok
 }
 
-// Taken, and every box and beacon count at most taken: where the counts lie, which saves two copies of them at each event.
-pub fn counts_within<'a>(taken: u32, boxes: &'a [u32; BOXES], beacons: &'a [u32; BEACONS]) -> bool
-    ensures { result ≡ counts_within taken (record { boxes = boxes.now; beacons = beacons.now }) }
-{
-    (taken <= MOST_EVENTS) & all_at_most(boxes, taken) & all_at_most(beacons, taken)
-}
-
-// Used and replaced slots.
-fn slots_within(slots: usize, taken: u32, u: SlotUse) -> bool
-    ensures { result ≡ slots_within slots taken u }
-{
-    let most = taken as usize;
-    (u.used <= most) & (u.used <= slots) & (u.replaced <= most)
-}
-
-// Readings and their totals.
-fn readings_within(readings: u32, totals: &[u32; TOTALS]) -> bool
-    ensures { result ≡ readings_within readings totals.now }
-{
-    if MOST_READINGS < readings {
-        return false;
+impl Interval {
+    // Whether the interval is within its limits where there are so many slots.
+    #[tactic(auto, unfolding(crate::specs::Interval::interval_within))]
+    pub fn within(&self, slots: usize) -> bool
+        ensures { result ≡ interval_within slots self.now }
+    {
+        self.counts_within() & self.slots_within(slots) & self.readings_within()
     }
-    all_at_most(totals, 65535 * readings)
-}
 
-// The other parts of an interval: the use of the slots, of which there are so many, and the readings.
-pub fn rest_within(
-    slots: usize,
-    taken: u32,
-    u: SlotUse,
-    readings: u32,
-    totals: &[u32; TOTALS],
-) -> bool
-    ensures { result ≡ (slots_within slots taken u && readings_within readings totals.now) }
-{
-    let samples = slots_within(slots, taken, u);
-    samples & readings_within(readings, totals)
+    // Taken, and every box and beacon count at most taken.
+    fn counts_within(&self) -> bool
+        ensures { result ≡ counts_within self.now.taken self.now.counts }
+    {
+        (self.taken <= MOST_EVENTS)
+            & all_at_most(&self.counts.boxes, self.taken)
+            & all_at_most(&self.counts.beacons, self.taken)
+    }
+
+    // Used and replaced slots.
+    fn slots_within(&self, slots: usize) -> bool
+        ensures { result ≡ slots_within slots self.now.taken self.now.samples }
+    {
+        let most = self.taken as usize;
+        (self.samples.used <= most) & (self.samples.used <= slots) & (self.samples.replaced <= most)
+    }
+
+    // Readings and their totals.
+    fn readings_within(&self) -> bool
+        ensures { result ≡ readings_within self.now.readings self.now.totals }
+    {
+        if MOST_READINGS < self.readings {
+            return false;
+        }
+        all_at_most(&self.totals, 65535 * self.readings)
+    }
 }

@@ -1,4 +1,4 @@
-// The processor's state, by value and in parts, and the state of a fresh processor.
+// The processor's state, in parts, and the state of a fresh processor.
 #![tactic(auto)]
 
 pub mod interval;
@@ -27,19 +27,16 @@ pub struct State {
 }
 
 // The state of a fresh processor of this capacity.
+#[tactic(auto, unfolding(crate::specs::State::fresh_state))]
 pub fn fresh(capacity: Capacity) -> State
     ensures { result ≡ fresh_state capacity }
 {
-    let interval = interval::fresh();
-    let settings = settings::fresh();
-    let commands = command_list::fresh();
-    let staging = load::staging::fresh_addresses();
     State {
         frame: 0,
-        interval: interval,
-        settings: settings,
-        commands: commands,
-        staging: staging,
+        interval: interval::fresh(),
+        settings: settings::fresh(),
+        commands: CommandList::fresh(),
+        staging: Addresses::fresh(),
         capacity,
     }
 }

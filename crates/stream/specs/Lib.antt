@@ -1,3 +1,4 @@
 -- What the programs' contracts cite.
 pub mod Start
+pub mod Kind
 pub mod Record

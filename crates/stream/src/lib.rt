@@ -1,5 +1,7 @@
-// What both programs begin with, the records that both read, and where a program stands after one.
+// What both programs begin with, the records that both read, and the run from one to the next.
 #![tactic(auto)]
 
+pub mod kind;
 pub mod record;
+pub mod run;
 pub mod start;

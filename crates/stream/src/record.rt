@@ -1,80 +1,41 @@
 // The bodies of the records that both programs read.
-ghost use Rattle.std.specs.Prelude.{true, false, ◌≡◌, ◌+◌, ◌≤◌, ◌<◌, length, get_or};
+ghost use Rattle.std.specs.Prelude.{◌≡◌, ◌+◌, ◌≤◌, ◌<◌, length, get_or, unwrap_or};
+ghost use Rattle.causes.specs.Causes.{call_number};
 ghost use Rattle.processor.specs.Reading.{reading_done};
-ghost use Rattle.buffered.specs.Input.{Held, waiting_in, input_bytes};
-ghost use Rattle.stream.specs.Record.{LongAs, FoundIn, IsOf, event_of, record_done, counts_in};
+ghost use Rattle.buffered.specs.Input.{input_bytes};
+ghost use Rattle.stream.specs.Kind.{kind_number};
+ghost use Rattle.stream.specs.Record.{LongAs, FoundIn, IsOf, body_in, event_of, record_done, counts_in};
 
+use crate::kind::{BadRecord, Kind};
 use boxes::TOTALS;
 use buffered::input::Input;
-use processor::Answer;
+use buffered::text::Text;
+use causes::{Cause, check};
 use sort::event::Event;
 use state::State;
 use wire::bits::is_set;
+use wire::number::BigEndian;
 
-// What stands next in the input.
+// A record that stands first where bytes wait: its body goes from `from` to before `to`, and the rest of the input stands
+// behind it.
 #[derive(Clone, Copy)]
-pub enum Next {
-    // It stopped before a kind byte.
-    End,
-    // No kind, or a short body.
-    Bad,
-    // A record: its kind byte is at `start` in the buffer, its body from `from` to before `rest.at`, and `rest` is the input
-    // behind it.
-    Record {
-        kind: u8,
-        start: usize,
-        from: usize,
-        rest: Input,
-    },
+pub struct Record {
+    pub kind: Kind,
+    pub from: usize,
+    pub to: usize,
 }
 
-// Where a program stands after a record: the state, the input, and whether there is more to do.
-#[derive(Clone, Copy)]
-pub struct Step {
-    pub state: State,
-    pub input: Input,
-    pub more: bool,
-}
+// What stands next in the input: a record, or nothing where it stopped before a kind byte.
+pub type Next = Result<Option<Record>, BadRecord>;
 
-// The program goes on with this input.
-pub fn going_on(state: State, input: Input) -> Step
-    ensures { (result.state ≡ state) × (result.input.at ≡ input.at) × (result.input.end ≡ input.end) × (result.more ≡ true) }
-{
-    Step {
-        state,
-        input,
-        more: true,
+impl Record {
+    pub fn body(self, waiting: &[u8]) -> &[u8]
+        requires { (self.from ≤ self.to) × (self.to ≤ length waiting.now) }
+        ensures { result.now ≡ body_in self waiting.now }
+    {
+        &waiting[self.from..self.to]
     }
 }
-
-// The end of a program.
-pub fn stopped(state: State) -> Step
-    ensures { (result.state ≡ state) × (result.input.at ≤ 0) × (result.input.end ≤ 0) × (result.more ≡ false) }
-{
-    let input = buffered::input::none();
-    Step {
-        state,
-        input: input,
-        more: false,
-    }
-}
-
-// A bad record is printed, and ends the program.
-pub fn bad(rt: &HostRuntime, state: State, text: &mut [u8], at: &mut usize) -> Step
-    ensures { (result.state ≡ state) × (result.input.at ≤ 0) × (result.input.end ≤ 0) × (result.more ≡ false) }
-{
-    buffered::text::bad_record(rt, text, at);
-    stopped(state)
-}
-
-// The kinds.
-pub const EVENT: u8 = 1;
-
-pub const READING: u8 = 2;
-
-pub const LINE: u8 = 3;
-
-pub const CLOSE: u8 = 4;
 
 // The lengths of the bodies.
 pub const EVENT_BYTES: usize = 7;
@@ -83,49 +44,35 @@ pub const READING_BYTES: usize = 16;
 
 pub const CLOSE_BYTES: usize = 4;
 
-// The length of a kind's body, where that is the same in both programs; else 0.
-pub fn fixed_bytes(kind: u8) -> usize
-    ensures { (result ≤ 16) × LongAs kind result }
+// The length of a kind's body, where that is the same in both programs.
+pub fn fixed_bytes(kind: Kind) -> Option<usize>
+    ensures { (unwrap_or result 0 ≤ 16) × LongAs (kind_number kind) (unwrap_or result 0) }
 {
     match kind {
-        EVENT => EVENT_BYTES,
-        READING => READING_BYTES,
-        CLOSE => CLOSE_BYTES,
-        _ => 0,
+        Kind::Event => Some(EVENT_BYTES),
+        Kind::Reading => Some(READING_BYTES),
+        Kind::Close => Some(CLOSE_BYTES),
+        _ => None,
     }
 }
 
 // The next record, whose body is the n bytes behind its first `head` ones.
-pub fn whole(
-    rt: &HostRuntime,
-    buffer: &mut [u8],
-    input: Input,
-    kind: u8,
-    head: usize,
-    n: usize,
-    text: &[u8],
-    at: &mut usize,
-) -> Next
-    requires held { Held input buffer.old }
+pub fn whole(input: &mut Input, kind: Kind, head: usize, n: usize, text: &mut Text) -> Next
     requires le_head { (1 ≤ head) × (head + n ≤ input_bytes) }
-    requires at_lt_end { (input.at < input.end) × (get_or buffer.old input.at 0 ≡ kind) }
-    ensures found_in { FoundIn result (waiting_in input buffer.old) buffer.new }
-    ensures of { IsOf kind head n result }
+    requires at_lt_end { (0 < length input.old) × (get_or input.old 0 0 ≡ kind_number kind) }
+    ensures found_in { FoundIn result input.old input.new }
+    ensures of { IsOf (kind_number kind) head n result }
 {
-    let filled = buffered::input::fill(rt, buffer, input, head + n, text, at);
-    let start = filled.at;
-    let end = filled.end;
-    if end - start < head + n {
-        return Next::Bad;
+    let to = head + n;
+    input.fill(to, text);
+    if input.waiting().len() < to {
+        return Err(BadRecord);
     }
-    let from = start + head;
-    let rest = Input { at: from + n, end };
-    Next::Record {
+    Ok(Some(Record {
         kind,
-        start,
-        from,
-        rest,
-    }
+        from: head,
+        to,
+    }))
 }
 
 // The flags' values in an event's last byte, and the largest that they make.
@@ -139,15 +86,16 @@ const STOP: u8 = 8;
 
 const LAST_FLAGS: u8 = 15;
 
+#[tactic(auto, unfolding(crate::specs::Record::event_of))]
 fn event_in(body: &[u8]) -> Event
     requires { length body.now ≡ 7 }
     ensures { result ≡ event_of body.now }
 {
     let flags = body[6];
     Event {
-        t: wire::read::u16_at(body, 0),
-        high: wire::read::u16_at(body, 2),
-        low: wire::read::u16_at(body, 4),
+        t: u16::read(body, 0),
+        high: u16::read(body, 2),
+        low: u16::read(body, 4),
         flg0: is_set(flags, FLG0),
         flg1: is_set(flags, FLG1),
         error: is_set(flags, ERROR),
@@ -156,17 +104,14 @@ fn event_in(body: &[u8]) -> Event
 }
 
 // One event. A flag byte over 15 is a field over its range.
-pub fn event(state: State, tables: &[u8], slots: &mut [u32], body: &[u8]) -> Answer
+#[tactic(auto, unfolding(crate::specs::Record::record_done))]
+pub fn event(state: &mut State, tables: &[u8], slots: &mut [u32], body: &[u8]) -> Result<(), Cause>
     requires { length body.now ≡ 7 }
-    ensures answer { result ≡ (record_done state tables.now slots.old body.now).answer }
-    ensures slots { slots.new ≡ (record_done state tables.now slots.old body.now).slots }
+    ensures number { call_number result ≡ (record_done state.old tables.now slots.old body.now).answer.number }
+    ensures state { state.new ≡ (record_done state.old tables.now slots.old body.now).answer.state }
+    ensures slots { slots.new ≡ (record_done state.old tables.now slots.old body.now).slots }
 {
-    if LAST_FLAGS < body[6] {
-        return Answer {
-            number: causes::FIELD_RANGE,
-            state,
-        };
-    }
+    check(body[6] <= LAST_FLAGS, Cause::FieldRange)?;
     processor::event::event(state, tables, slots, event_in(body))
 }
 
@@ -175,21 +120,22 @@ fn counts_in(body: &[u8]) -> [u16; TOTALS]
     ensures { result ≡ counts_in body.now }
 {
     [
-        wire::read::u16_at(body, 0),
-        wire::read::u16_at(body, 2),
-        wire::read::u16_at(body, 4),
-        wire::read::u16_at(body, 6),
-        wire::read::u16_at(body, 8),
-        wire::read::u16_at(body, 10),
-        wire::read::u16_at(body, 12),
-        wire::read::u16_at(body, 14),
+        u16::read(body, 0),
+        u16::read(body, 2),
+        u16::read(body, 4),
+        u16::read(body, 6),
+        u16::read(body, 8),
+        u16::read(body, 10),
+        u16::read(body, 12),
+        u16::read(body, 14),
     ]
 }
 
 // One second reading.
-pub fn reading(state: State, body: &[u8]) -> Answer
+pub fn reading(state: &mut State, body: &[u8]) -> Result<(), Cause>
     requires { length body.now ≡ 16 }
-    ensures { result ≡ reading_done state (counts_in body.now) }
+    ensures number { call_number result ≡ (reading_done state.old (counts_in body.now)).number }
+    ensures state { state.new ≡ (reading_done state.old (counts_in body.now)).state }
 {
     processor::reading::reading(state, counts_in(body))
 }

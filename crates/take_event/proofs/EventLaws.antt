@@ -71,7 +71,7 @@ taken_within N i s o n r h =
     record {
       taken_most = omega arith;
       boxes_most = tallied_most i.taken i.counts.boxes (boxes_of o) (boxes_differ o n) w.boxes_most;
-      beacons_most = tallied_most i.taken i.counts.beacons (beacons_of o) (beacons_differ o) w.beacons_most;
+      beacons_most = tallied_most i.taken i.counts.beacons (beacons_of o) (beacons_differ o n) w.beacons_most;
       used_taken = omega (arith, p.0, w.used_taken);
       used_most = used_most N (ltb u.used N) (priority_of o && ltb u.replaced s.limhi) (eligible s.junk o) u refl w.used_most;
       replaced_taken = omega (arith, p.1, w.replaced_taken);

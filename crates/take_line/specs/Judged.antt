@@ -1,9 +1,9 @@
--- What judging a line hands over: its number, and the sum where it is accepted. Assumes nothing.
-use Rattle.std.specs.Prelude.{◌≡◌, cond, List, ℕ, eqb}
-use Rattle.causes.specs.Causes.{carried_out}
+-- What judging a line hands over: its cause, or the sum of a line that is accepted. Assumes nothing.
+use Rattle.std.specs.Prelude.{◌≡◌, ℕ, List, Result, IfOk}
+use Rattle.causes.specs.Causes.{call_number}
 use Rattle.causes.specs.Checks.{Check, number_by}
-use Rattle.take_line.specs.declared.Judged.{Judged}
+use Rattle.causes.specs.declared.Cause.{Cause}
 
 -- the number is that of the checks, and the sum is the given one where they are all passed
-abbrev pub JudgedAs : Judged → List Check → (sum : ℕ) → Type 0
-JudgedAs j checks sum = (j.number ≡ number_by checks) × (j.sum ≡ cond (eqb (number_by checks) carried_out) sum 0)
+abbrev pub JudgedAs : Result ℕ Cause → List Check → (sum : ℕ) → Type 0
+JudgedAs judged checks sum = (call_number judged ≡ number_by checks) × IfOk judged (λ n. n ≡ sum)

@@ -17,7 +17,6 @@ use Rattle.command_list.specs.CommandList.{load_waits, commands_full, with_accep
 use Rattle.state.specs.declared.State.{State}
 use Rattle.state.specs.State.{with_command_list, with_staging}
 use Rattle.state.specs.Limits.{ranges_of, within_limits}
-use Rattle.take_line.specs.declared.LineAnswer.{LineAnswer}
 
 -- no "lent buffer .. of other length", from the lengths of staging, bitmap and echo
 abbrev pub line_lent : (staging bitmap echo : ℕ) → Bool
@@ -73,6 +72,12 @@ line_echo frame accepted line = cond (eqb (length line) 0) prompt_echo (accepted
 -- 5, 6 and 7 echo the error, and of 15 and 16 "both echo as 5"; 1 and 4 leave the echo as it was
 abbrev pub echo_by : (number : ℕ) (accepted refused before : List ℕ) → List ℕ
 echo_by number accepted refused before = cond (eqb number cause.carried_out) accepted (cond (leb cause.wrong_line number) refused before)
+
+-- a line's number, 0 where it was accepted, the state, and the sum that an ask returns; 0 for every other line
+pub record LineAnswer : Type 0 where
+  pub number : ℕ
+  pub state : State
+  pub sum : ℕ
 
 -- what the call hands back and leaves in the lent echo; staging and bitmap are only read
 pub record LineDone : Type 0 where

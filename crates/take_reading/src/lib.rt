@@ -2,6 +2,7 @@
 #![tactic(auto)]
 
 ghost use Rattle.std.specs.Prelude.{◌≡◌, true, ◌<◌};
+ghost use Rattle.causes.specs.Causes.{call_number};
 ghost use Rattle.wire.specs.Lists.{EachBelow};
 ghost use Rattle.state.specs.Interval.{most_readings, with_reading};
 ghost use Rattle.state.specs.Limits.{within_limits};
@@ -9,47 +10,35 @@ ghost use Rattle.state.specs.State.{with_interval};
 ghost use Rattle.take_reading.specs.Reading.{reading_number, added_totals};
 
 use boxes::TOTALS;
-use causes::unless;
+use causes::{Cause, check};
 use state::State;
 use state::interval::MOST_READINGS;
-use wire::bits::wide16;
 
-// The call's number.
-pub fn reading_number(s: State) -> u8
-    ensures { result ≡ reading_number s }
+// Whether the reading is taken.
+#[tactic(auto, unfolding(crate::specs::Reading::reading_number))]
+pub fn judge(state: &State) -> Result<(), Cause>
+    ensures { call_number result ≡ reading_number state.now }
 {
-    let limits = state::limits::within_limits(s);
-    let room = s.interval.readings < MOST_READINGS;
-    let full = unless(room, causes::INTERVAL_FULL, causes::CARRIED_OUT);
-    unless(limits, causes::BUFFER_OR_STATE, full)
+    check(state::limits::within_limits(state), Cause::BufferOrState)?;
+    check(state.interval.readings < MOST_READINGS, Cause::IntervalFull)
 }
 
 // Each count added to its total: a reading has as many counts as there are totals.
-fn added(totals: [u32; TOTALS], counts: [u16; TOTALS]) -> [u32; TOTALS]
-    requires { EachBelow 4000000 totals }
-    ensures { result ≡ added_totals totals counts }
+fn add(totals: &mut [u32; TOTALS], counts: [u16; TOTALS])
+    requires { EachBelow 4000000 totals.old }
+    ensures { totals.new ≡ added_totals totals.old counts }
 {
-    let mut sums = totals;
-    let mut i: usize = 0;
-    while i < TOTALS {
-        let sum = totals[i] + wide16(counts[i]);
-        sums[i] = sum;
-        i += 1;
+    for (i, total) in totals.iter_mut().enumerate() {
+        *total += u32::from(counts[i]);
     }
-    sums
 }
 
-// The state with one reading more.
-pub fn take_reading(s: State, counts: [u16; TOTALS]) -> State
-    requires { (within_limits s ≡ true) × (s.interval.readings < most_readings) }
-    ensures { result ≡ with_interval s (with_reading s.interval (added_totals s.interval.totals counts)) }
+// One reading more in the state.
+pub fn take_reading(state: &mut State, counts: [u16; TOTALS])
+    requires { (within_limits state.old ≡ true) × (state.old.interval.readings < most_readings) }
+    ensures { state.new
+        ≡ with_interval state.old (with_reading state.old.interval (added_totals state.old.interval.totals counts)) }
 {
-    let mut i = s.interval;
-    let before = i.totals;
-    let totals = added(before, counts);
-    i.readings = i.readings + 1;
-    i.totals = totals;
-    let mut t = s;
-    t.interval = i;
-    t
+    add(&mut state.interval.totals, counts);
+    state.interval.readings += 1;
 }

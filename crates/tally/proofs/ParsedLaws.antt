@@ -19,8 +19,7 @@ use Rattle.command.proofs.DigitLaws.{digit_range}
 use Rattle.command.specs.declared.command.Line.{Line}
 use Rattle.command.specs.declared.command.Line.TheVariants.{Wrong}
 use Rattle.command.specs.declared.command.Setting.TheVariants.{Limhi, Eonly, Toferror, Junk, Hv, Hvstep}
-use Rattle.command.specs.declared.argument.Argument.{Argument}
-use Rattle.command.specs.declared.argument.Argument.TheVariants.{Value, Malformed}
+use Rattle.std.specs.Prelude.{Option, Some, None}
 use Rattle.command.specs.Grammar.{line_words, onto, is_digit, digit_value, argument_of, right_if, lookup_keyword}
 use Rattle.command.specs.Grammar.{with_one, with_two, with_three, one_argument, two_arguments, three_arguments, of_words, line_of}
 use Rattle.tally.specs.Texts.{Digits, value_of, CommandText, change, load_zero, load_at, ask, commit, text_of, Loadable, InRanges}
@@ -79,7 +78,7 @@ digits_back (b ∷ bs) h =
     let r = digits_back bs s.1 in
     ((λ i. d.0 i ∷ r.0 i), (d.1, r.1), omega (arith, r.2))
 
-argument_back : (w : List ℕ) → (argument_of w ≡ Malformed) ⊎ Spelled w
+argument_back : (w : List ℕ) → (argument_of w ≡ None) ⊎ Spelled w
 unfolding argument_of
 argument_back w =
     decide (leb 1 (length w) && leb (length w) 6 && all is_digit w)
@@ -94,7 +93,7 @@ argument_back w =
     }))
     (λ q. inl (rw q))
 
-value_of_lem : (w : List ℕ) (s : Spelled w) → argument_of w ≡ Value (value_of s.ds)
+value_of_lem : (w : List ℕ) (s : Spelled w) → argument_of w ≡ Some (value_of s.ds)
 value_of_lem w s = ap argument_of s.spell ∙ argument_is s.ds s.are
 
 -- ---- keywords
@@ -192,13 +191,13 @@ module _ (reach limhi : ℕ) where
   words_back bytes (k ∷ []) h = inl refl
   words_back bytes (k ∷ a ∷ []) h =
       ⊎_elim
-      (λ e. inl (ap (λ (x : Argument). one_argument k x (within reach limhi)) e))
+      (λ e. inl (ap (λ (x : Option ℕ). one_argument k x (within reach limhi)) e))
       (λ s. read_as (sym (ap rest h) ∙ ap (λ (x : List ℕ). k ++ 32 ∷ (x ++ [])) s.spell)
-      (ap (λ (x : Argument). one_argument k x (within reach limhi)) (value_of_lem a s)) (one_back k s.ds s.are))
+      (ap (λ (x : Option ℕ). one_argument k x (within reach limhi)) (value_of_lem a s)) (one_back k s.ds s.are))
       (argument_back a)
   words_back bytes (k ∷ a ∷ b ∷ []) h =
       ⊎_elim
-      (λ e. inl (ap (λ (x : Argument). two_arguments k x (argument_of b) (within reach limhi)) e))
+      (λ e. inl (ap (λ (x : Option ℕ). two_arguments k x (argument_of b) (within reach limhi)) e))
       (λ s.
       ⊎_elim
       (λ e. inl (λ i. two_arguments k (value_of_lem a s i) (e i) (within reach limhi)))
@@ -208,7 +207,7 @@ module _ (reach limhi : ℕ) where
       (argument_back a)
   words_back bytes (k ∷ a ∷ b ∷ c ∷ []) h =
       ⊎_elim
-      (λ e. inl (ap (λ (x : Argument). three_arguments k x (argument_of b) (argument_of c) (within reach limhi)) e))
+      (λ e. inl (ap (λ (x : Option ℕ). three_arguments k x (argument_of b) (argument_of c) (within reach limhi)) e))
       (λ s.
       ⊎_elim
       (λ e. inl (λ i. three_arguments k (value_of_lem a s i) (e i) (argument_of c) (within reach limhi)))

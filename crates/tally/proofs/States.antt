@@ -16,7 +16,8 @@ use Rattle.samples.specs.Selection.{sorted, slots_taken}
 use Rattle.samples.proofs.SelectionLaws.{one_more_slots, one_more_use, no_slots, no_use}
 use Rattle.command.specs.declared.command.Line.{Line}
 use Rattle.command.specs.declared.command.Line.TheVariants.{Empty, Wrong, Change, LoadZero, LoadAt, Ask, Commit}
-use Rattle.command.specs.declared.traits.Leaves.{Leaves}
+use Rattle.std.specs.Prelude.{Option}
+use Rattle.command.specs.declared.command.Command.{Command}
 use Rattle.command.specs.Asked.{traits_of}
 use Rattle.command_list.specs.declared.CommandList.{CommandList}
 use Rattle.command_list.specs.CommandList.{fresh_command_list, command_list_with, with_accepted, left_waiting}
@@ -82,7 +83,7 @@ reading_interval t counts = λ i. record {
 -- ---- an accepted line
 
 -- one more command accepted, with what its line leaves waiting, where there is room
-accepted_state : {z : Sizes} (t : Tally) → Inv z t → (x : Leaves) → not (full_for t) ≡ true
+accepted_state : {z : Sizes} (t : Tally) → Inv z t → (x : Option Command) → not (full_for t) ≡ true
     → with_accepted (command_list_with t.commands.accepted t.commands.waiting) x ≡ command_list_with (t.commands.accepted + 1) (t.commands.waiting ++ left_waiting x)
 accepted_state t v x h =
     let w = commands_most t v in

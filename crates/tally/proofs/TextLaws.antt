@@ -18,8 +18,7 @@ use Rattle.command.specs.declared.command.Line.TheVariants.{Change, LoadZero, Lo
 use Rattle.command.specs.declared.command.Setting.{Setting}
 use Rattle.command.specs.declared.command.Setting.TheVariants.{Limhi, Eonly, Toferror, Junk, Hv, Hvstep}
 use Rattle.command.specs.declared.ranges.Ranges.{Ranges}
-use Rattle.command.specs.declared.argument.Argument.{Argument}
-use Rattle.command.specs.declared.argument.Argument.TheVariants.{Value}
+use Rattle.std.specs.Prelude.{Option, Some, None}
 use Rattle.command.specs.Grammar.{printable, line_words, onto, is_digit, digit_value, hex_behind, argument_of, right_if, lookup_keyword}
 use Rattle.command.specs.Grammar.{with_one, with_two, with_three, one_argument, two_arguments, three_arguments, of_words, line_of}
 use Rattle.tally.specs.Texts.{Digits, value_behind, value_of, arguments_text, line_text, CommandText, change, load_zero, load_at, ask}
@@ -73,11 +72,11 @@ digits_value n [] h = refl
 digits_value n (d ∷ ds) h =
     ap (λ (x : ℕ). hex_behind (16 * n + x) (map hex_digit ds)) (digit d h.0).value ∙ digits_value (16 * n + d) ds h.1
 
-pub argument_is : (ds : List ℕ) → Digits ds → argument_of (map hex_digit ds) ≡ Value (value_of ds)
+pub argument_is : (ds : List ℕ) → Digits ds → argument_of (map hex_digit ds) ≡ Some (value_of ds)
 unfolding argument_of
 argument_is ds h =
     rw (digits_length ds, le-leb _ _ h.0, le-leb _ _ h.1, digits_all is_digit (λ d g. (digit d g).is) ds h.2)
-    (ap Value (digits_value 0 ds h.2))
+    (ap Some (digits_value 0 ds h.2))
 
 -- ---- the words of a text
 
@@ -119,7 +118,7 @@ module _ (k : String) (ranges : Ranges) (h : spaceless (text k) ≡ true) where
 
   pub read_one : (n : List ℕ) → Digits n → line_of (line_text k (n ∷ [])) ranges ≡ with_one (text k) (value_of n) ranges
   unfolding of_words one_argument
-  read_one n d = line_is n [] (d, tt) ∙ ap (λ (a : Argument). one_argument (text k) a ranges) (argument_is n d)
+  read_one n d = line_is n [] (d, tt) ∙ ap (λ (a : Option ℕ). one_argument (text k) a ranges) (argument_is n d)
 
   pub read_two : (a y : List ℕ) → Digits a → Digits y
       → line_of (line_text k (a ∷ y ∷ [])) ranges ≡ with_two (text k) (value_of a) (value_of y) ranges

@@ -10,7 +10,7 @@ use Rattle.output.specs.declared.Span.{Span}
 use Rattle.output.specs.Ended.{Ended, ended_in}
 use Rattle.output.specs.Output.{written}
 use Rattle.listing_packet.specs.Listing.{listing_packet}
-use Rattle.processor.specs.declared.Answer.{Answer}
+use Rattle.processor.specs.Answer.{Answer}
 use Rattle.processor.specs.Event.{EventDone, event_done}
 use Rattle.processor.specs.Reading.{reading_done}
 use Rattle.take_line.specs.Line.{LineDone}

@@ -10,6 +10,7 @@ use lib.Seq.{sets, sets-eq, length-take-le, take_at, drop_at, drop-cons, take-su
 use lib.Seq.{get_or-append-add, get_or-take, get_or-drop}
 use borrow.Rule.Slice.PartMut.{put_mid, Post-is}
 use Rattle.wire.specs.Bytes.{put, total, words, be32, zeros}
+pub use Rattle.wire.specs.NumberLaws.{put_inside, value16, value32}
 
 -- ---- a run put into a list
 
@@ -28,17 +29,7 @@ unfolding put
 take_put vs xs at m e h =
     take_at (take at xs ++ vs) (drop (at + length vs) xs) m (simp (length-append, length-take) (omega arith))
 
--- an element inside the run that is put, and one outside it
-pub put_inside : (vs xs : List ℕ) (at k : ℕ) → at ≤ length xs → k < length vs → get_or (put xs at vs) (at + k) 0 ≡ get_or vs k 0
-unfolding put
-put_inside vs xs at k h l =
-    let T : List ℕ = take at xs in
-    let D : List ℕ = drop (at + length vs) xs in
-    let lt : length T ≡ at = length-take-le at xs h in
-    get_or-append (T ++ vs) D 0 (at + k) (simp (length-append, lt) (omega arith))
-    ∙ ap (λ (n : ℕ). get_or (T ++ vs) (n + k) 0) (sym lt)
-    ∙ get_or-append-add T vs k 0
-
+-- an element outside the run that is put
 pub put_before : (vs xs : List ℕ) (at k : ℕ) → at ≤ length xs → k < at → get_or (put xs at vs) k 0 ≡ get_or xs k 0
 unfolding put
 put_before vs xs at k h l =
@@ -168,11 +159,5 @@ total_append (x ∷ xs) ys = omega (arith, total_append xs ys)
 
 -- ---- a number's bytes hold the number
 
-pub value16 : (v : ℕ) → 256 * (v / 256) + v % 256 ≡ v
-value16 v = omega arith
-
 pub value24 : (v : ℕ) → 65536 * (v / 65536) + 256 * (v / 256 % 256) + v % 256 ≡ v
 value24 v = omega arith
-
-pub value32 : (v : ℕ) → 16777216 * (v / 16777216) + 65536 * (v / 65536 % 256) + 256 * (v / 256 % 256) + v % 256 ≡ v
-value32 v = omega arith

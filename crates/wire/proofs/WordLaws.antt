@@ -1,50 +1,38 @@
--- Laws of loops over words: to a first byte, and over two words at once. Assumes nothing.
-use mathlib.Core.Path.{◌≡◌, refl, ap}
-use mathlib.Core.Bool.{true, false}
-use mathlib.Core.List.{List, [], ◌∷◌}
-use Prim.Native.Nat.{ℕ, suc, ◌+◌, ◌≤◌, ◌<◌}
-use native.Mathlib.Numerals.{add-one}
-use lib.ListN.{length, drop, get_or, drop_of_length-le}
-use lib.Seq.{drop-cons}
-use lib.Dec.{eqb}
-use borrow.Author.Tests.{eq-eqb, ne_eqb}
+-- Laws of words: what the library says of a first byte and of two equal words. Assumes nothing.
+use Rattle.std.proofs.Common.{◌≡◌, ℕ, ◌≤◌, true, cond, List, [], ◌∷◌, length, refl, ap, ◌∙◌, arith}
+use Rattle.std.specs.Prelude.{Some, None}
+use Rattle.std.specs.Option.{unwrap_or}
+use Rattle.std.specs.List.{position, position_or_len}
+use Rattle.std.specs.Str.{bytes_eq}
+use Rattle.std.proofs.lemmas.List.Recursion.{is_position_or_len}
+use Rattle.std.proofs.lemmas.List.Sums.{prefix_len-le-length}
+use Rattle.std.proofs.lemmas.Slice.Eq.{bytes_eq-Decides}
+use lib.Dec.{eqb, ltb}
+use borrow.Author.Tests.{ltb-false}
 use Rattle.wire.specs.Words.{length_before, same}
-use Rattle.wire.proofs.Lists.{and_false}
+use Rattle.wire.proofs.Lists.{decide}
 
--- ---- the bytes before the first b
+-- the bytes before the first b are as many as the library says
+pub before_is : (b : ℕ) (w : List ℕ) → length_before b w ≡ position_or_len (λ x. eqb x b) w
+unfolding length_before
+before_is b w =
+    is_position_or_len (length_before b) (λ x. eqb x b) refl
+    (λ x xs. ap (cond (eqb x b) 0) (omega arith)) w
 
-module _ (b : ℕ) (w : List ℕ) (i : ℕ) where
-  pub before_step : i < length w → (get_or w i 0 ≡ b → ⊥) → length_before b (drop i w) ≡ suc (length_before b (drop (i + 1) w))
-  unfolding length_before
-  before_step h e = rw (drop-cons w i 0, add-one) (rw (ne_eqb _ _ e))
+pub first_or_all : (b : ℕ) (w : List ℕ)
+    → (unwrap_or (position (λ x. eqb x b) w) (length w) ≡ length_before b w) × (unwrap_or (position (λ x. eqb x b) w) (length w) ≤ length w)
+first_or_all b w = rw before_is (go (position_or_len (λ x. eqb x b) w) (length w) (prefix_len-le-length _ w))
+  where
+    go : (n m : ℕ) → n ≤ m → (unwrap_or (cond (ltb n m) (Some n) None) m ≡ n) × (unwrap_or (cond (ltb n m) (Some n) None) m ≤ m)
+    go n m h = decide (ltb n m) (λ e. rw e (refl, h)) (λ e. let q : m ≡ n = omega (arith, ltb-false n m e) in rw e (q, omega arith))
 
-  pub before_stop : i < length w → get_or w i 0 ≡ b → length_before b (drop i w) ≡ 0
-  unfolding length_before
-  before_stop h e = rw (drop-cons w i 0) (rw (eq-eqb _ _ e))
-
-  pub before_end : length w ≤ i → length_before b (drop i w) ≡ 0
-  unfolding length_before
-  before_end h = rw (drop_of_length-le w h)
-
--- ---- the same word
-
-module _ (a b : List ℕ) (i : ℕ) where
-  pub same_step : i < length a → i < length b → get_or a i 0 ≡ get_or b i 0
-      → same (drop i a) (drop i b) ≡ same (drop (i + 1) a) (drop (i + 1) b)
-  unfolding same
-  same_step h g e = rw (drop-cons a i 0, drop-cons b i 0, add-one) (rw (eq-eqb _ _ e))
-
-  pub same_stop : i < length a → i < length b → (get_or a i 0 ≡ get_or b i 0 → ⊥) → same (drop i a) (drop i b) ≡ false
-  unfolding same
-  same_stop h g e = rw (drop-cons a i 0, drop-cons b i 0) (rw (ne_eqb _ _ e))
-
-  pub same_end : length a ≤ i → length b ≤ i → same (drop i a) (drop i b) ≡ true
-  unfolding same
-  same_end h g = rw (drop_of_length-le a h, drop_of_length-le b g)
-
-pub same_lengths : (a b : List ℕ) → (length a ≡ length b → ⊥) → same a b ≡ false
+-- two words are the same where the library's `==` says so
+pub same_is : (a b : List ℕ) → bytes_eq a b ≡ same a b
 unfolding same
-same_lengths [] [] h = absurd (h refl)
-same_lengths [] (y ∷ ys) h = refl
-same_lengths (x ∷ xs) [] h = refl
-same_lengths (x ∷ xs) (y ∷ ys) h = rw (same_lengths xs ys (λ e. h (ap suc e))) (and_false (eqb x y))
+same_is [] [] = refl
+same_is [] (y ∷ ys) = refl
+same_is (x ∷ xs) [] = refl
+same_is (x ∷ xs) (y ∷ ys) = rw (same_is xs ys)
+
+pub same_words : (a b : List ℕ) → same a b ≡ true → a ≡ b
+same_words a b h = (bytes_eq-Decides a b).0 (same_is a b ∙ h)

@@ -19,7 +19,10 @@ be24 v = v / 65536 ∷ v / 256 % 256 ∷ v % 256 ∷ []
 abbrev pub be32 : ℕ → List ℕ
 be32 v = v / 16777216 ∷ v / 65536 % 256 ∷ v / 256 % 256 ∷ v % 256 ∷ []
 
--- the number in the bytes from `at` on: two, three, four
+-- the number in the bytes from `at` on: one, two, three, four
+abbrev pub at8 : List ℕ → ℕ → ℕ
+at8 xs at = get_or xs at 0
+
 abbrev pub at16 : List ℕ → ℕ → ℕ
 at16 xs at = 256 * get_or xs at 0 + get_or xs (at + 1) 0
 

@@ -4,3 +4,4 @@ pub mod Lists
 pub mod Pieces
 pub mod Text
 pub mod Words
+pub mod NumberLaws

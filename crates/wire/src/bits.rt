@@ -1,31 +1,12 @@
-// Single bits, and numbers made wider.
+// Single bits.
 ghost use Rattle.std.specs.Prelude.{◌≡◌, ◌^◌, ◌≤◌, ◌<◌};
 ghost use Rattle.wire.specs.Bits.{bit_of, is_set, bit_at, with_bit};
-
-// A byte, a 16-bit and a 32-bit number, wider. A function asks no proof that an element of a slice fits.
-pub fn wide8(x: u8) -> u32
-    ensures { (result ≡ x) × (result ≤ 255) }
-{
-    x as u32
-}
-
-pub fn wide16(x: u16) -> u32
-    ensures { (result ≡ x) × (result < 65536) }
-{
-    x as u32
-}
-
-pub fn wide32(x: u32) -> u64
-    ensures { result ≡ x }
-{
-    x as u64
-}
 
 // A flag as a bit.
 pub fn bit(flag: bool) -> u8
     ensures { (result ≡ bit_of flag) × (result ≤ 1) }
 {
-    if flag { 1 } else { 0 }
+    u8::from(flag)
 }
 
 // Whether the bit with this value is set.

@@ -2,6 +2,7 @@
 #![tactic(auto)]
 
 pub mod bits;
+pub mod number;
 pub mod read;
 pub mod words;
 pub mod write;

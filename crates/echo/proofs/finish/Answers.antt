@@ -1,16 +1,15 @@
--- `finish` writes the ending, and zeros behind it to the end of the buffer.
-use Prim.Native.Nat.{ℕ, ◌+◌, ◌-◌}
-use mathlib.Core.Path.{◌≡◌, refl, ap, ◌∙◌}
-use mathlib.Core.List.{◌++◌}
-use native.Mathlib.Omega.{arith}
-use Rattle.wire.specs.Bytes.{put, zeros}
-use Rattle.wire.proofs.Bytes.{then}
+-- `finish` writes the ending behind what is written, and zeros to the end of the buffer.
+use Rattle.std.proofs.Common.{◌++◌, take, arith, ◌∙◌}
+use lib.ListN.{length-append}
+use lib.Seq.{length-take-le}
 use Rattle.echo.specs.Echo.{ending}
+use Rattle.echo.proofs.EchoLaws.{echo_is}
 use Rattle.echo.proofs.finish.Goals as goal
 
 pub returns : goal.returns
 returns c =
     let a = c.args in
-    let k : 128 - (a.at + 7) ≡ 121 - a.at = omega arith in
-    then a.echo.now a.at ending _ _ c.put_bytes.ensures c.put_zeros.ensures refl (omega arith)
-    ∙ ap (λ (n : ℕ). put a.echo.now a.at (ending ++ zeros n)) k
+    let n = c.put_text-end.result in
+    echo_is c.put_text-end.new.echo (take a.at a.echo.now ++ ending) n (omega arith) c.put_text-end.ensures.written
+    (length-append (take a.at a.echo.now) ending ∙ omega (arith, length-take-le a.at a.echo.now (omega arith)))
+    (omega arith) c.put_zeros.ensures

@@ -1,5 +1,4 @@
 -- Each turn of `write_samples` adds one sample packet behind those that are written.
-use Prim.Native.Nat.{◌≤◌, ◌-◌}
 use mathlib.Core.Path.{◌≡◌}
 use lib.ListN.{length}
 use Rattle.wire.specs.Bytes.{put}
@@ -8,7 +7,4 @@ use Rattle.output.specs.Output.{samples_of}
 use Rattle.output.proofs.write_samples.Given as goal
 
 abbrev pub invariant-loop-i : goal.invariant-loop-i
-invariant-loop-i l = (l.i ≤ l.s.many) × ((l.out ≡ put l.initial.out packet_bytes (samples_of l.frame l.time l.slots l.s.first l.i)) × (length l.out ≡ length l.initial.out))
-
-abbrev pub decreases-loop-i : goal.decreases-loop-i
-decreases-loop-i l = l.s.many - l.i
+invariant-loop-i l = (l.out ≡ put l.initial.out packet_bytes (samples_of l.frame l.time l.slots l.s.first l.i)) × (length l.out ≡ length l.initial.out)

@@ -1,29 +1,48 @@
 -- `argument_of` takes a word of one to six digits for its value, and refuses every other.
-use mathlib.Core.Path.{sym, ◌∙◌}
-use native.Mathlib.Omega.{arith}
-use borrow.Author.Tests.{le-leb, lt-leb}
-use Rattle.command.specs.Grammar.{argument_of}
+use Rattle.std.proofs.Common.{◌≡◌, ℕ, ◌+◌, ◌*◌, drop, sym, ap, ◌∙◌, arith, rules}
+use Rattle.std.specs.Prelude.{None}
+use lib.ListN.{get_or}
+use Rattle.wire.proofs.Lists.{all_stop, all_step, all_end}
+use Rattle.command.specs.Grammar.{is_digit, hex_behind, argument_of}
+use Rattle.command.proofs.DigitLaws.{hex_step, hex_end, hex_room, digit_some, digit_none, out_of_size, in_size, not_digits, digits_are}
 use Rattle.command.proofs.argument.argument_of.Goals as goal
 
-pub returns-then-w-lt1 : goal.returns-then-w-lt1
-unfolding argument_of
-returns-then-w-lt1 c = simp (lt-leb _ _ c.if-w-lt1.true)
+pub returns-then-is_empty-w : goal.returns-then-is_empty-w
+returns-then-is_empty-w c = sym (out_of_size c.args.w.now (rw c.is_empty.ensures at c.if-is_empty-w.true))
 
-pub returns-then-w-gt-MAX_DIGITS : goal.returns-then-w-gt-MAX_DIGITS
-unfolding argument_of
-returns-then-w-gt-MAX_DIGITS c = simp (le-leb _ _ c.if-w-lt1.false, lt-leb _ _ c.if-w-gt-MAX_DIGITS.true)
+pub overflow_mul-n : goal.overflow_mul-n
+overflow_mul-n c =
+    let s = in_size c.args.w.now (rw c.is_empty.ensures at c.if-is_empty-w.false) in
+    omega (arith, hex_room c.loop-b.n 0 c.loop-b.b-index (omega arith) (omega arith) (omega arith))
 
-pub returns-then-not-all_digits : goal.returns-then-not-all_digits
-unfolding argument_of
-returns-then-not-all_digits c =
-    let digits = sym c.all_digits.ensures ∙ c.if-not-all_digits.true in
-    simp (le-leb _ _ c.if-w-lt1.false, le-leb _ _ c.if-w-gt-MAX_DIGITS.false, digits)
+pub overflow_add-n : goal.overflow_add-n
+overflow_add-n c =
+    let s = in_size c.args.w.now (rw c.is_empty.ensures at c.if-is_empty-w.false) in
+    let d = digit_some (get_or c.args.w.now c.loop-b.b-index 0) c.in_ok-n.field-0 c.in_ok-n.ensures in
+    omega (arith, hex_room c.loop-b.n c.in_ok-n.field-0 c.loop-b.b-index (omega arith) d.2 (omega arith))
 
-pub value-requires : goal.value-requires
-value-requires c = record { w_len_bound = omega arith; w_value = sym c.all_digits.ensures ∙ c.if-not-all_digits.false }
+pub returns-in_err-n : goal.returns-in_err-n
+returns-in_err-n c =
+    let w = c.args.w.now in
+    let f = digit_none (get_or w c.loop-b.b-index 0) c.in_err-n.ensures in
+    let e : argument_of w ≡ None = not_digits w (all_stop is_digit w 0 c.loop-b.b-index (omega arith) f c.loop-b.invariant.2) in
+    rw e (search rules)
+
+pub loop-b-preserved : goal.loop-b-preserved
+loop-b-preserved c =
+    let w = c.args.w.now in
+    let i = c.loop-b.b-index in
+    let n = c.loop-b.n in
+    let s = in_size w (rw c.is_empty.ensures at c.if-is_empty-w.false) in
+    let d = digit_some (get_or w i 0) c.in_ok-n.field-0 c.in_ok-n.ensures in (
+      (hex_room n c.in_ok-n.field-0 i (omega arith) d.2 (omega arith)).0,
+      ap (λ (x : ℕ). hex_behind (16 * n + x) (drop (i + 1) w)) (sym d.1) ∙ sym (hex_step n w i (omega arith)) ∙ c.loop-b.invariant.1,
+      all_step is_digit w 0 i (omega arith) d.0 c.loop-b.invariant.2,
+    )
 
 pub returns : goal.returns
-unfolding argument_of
 returns c =
-    let digits = sym c.all_digits.ensures ∙ c.if-not-all_digits.false in
-    simp (le-leb _ _ c.if-w-lt1.false, le-leb _ _ c.if-w-gt-MAX_DIGITS.false, digits, sym c.value.ensures)
+    let w = c.args.w.now in
+    let s = in_size w (rw c.is_empty.ensures at c.if-is_empty-w.false) in
+    let e = all_end is_digit w 0 c.loop-b.b-index (omega arith) c.loop-b.invariant.2 in
+    sym (digits_are w c.loop-b.n s e (sym c.loop-b.invariant.1 ∙ hex_end c.loop-b.n w c.loop-b.b-index (omega arith)))

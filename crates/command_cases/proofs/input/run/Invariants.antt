@@ -1,10 +1,6 @@
--- `run` takes line after line, and each ends behind where it began.
-use Prim.Native.Nat.{◌-◌}
-use lib.ListN.{length}
+-- What is left of the text becomes shorter with each line.
+use Rattle.std.proofs.Common.{length}
 use Rattle.command_cases.proofs.input.run.Given as goal
 
-abbrev pub invariant-loop-at : goal.invariant-loop-at
-invariant-loop-at l = Unit {0}
-
-abbrev pub decreases-loop-at : goal.decreases-loop-at
-decreases-loop-at l = length l.text - l.at
+abbrev pub decreases-loop-rest : goal.decreases-loop-rest
+decreases-loop-rest l = length l.rest

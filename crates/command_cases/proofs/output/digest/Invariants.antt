@@ -1,10 +1,6 @@
--- `digest` goes through the bytes and stays below its modulus.
-use lib.ListN.{length}
-use Prim.Native.Nat.{◌≤◌, ◌<◌, ◌-◌}
+-- `digest` stays below its modulus.
+use Rattle.std.proofs.Common.{◌<◌}
 use Rattle.command_cases.proofs.output.digest.Given as goal
 
-abbrev pub invariant-loop-i : goal.invariant-loop-i
-invariant-loop-i l = (l.i ≤ length l.part) × (l.h < 65521)
-
-abbrev pub decreases-loop-i : goal.decreases-loop-i
-decreases-loop-i l = length l.part - l.i
+abbrev pub invariant-loop-b : goal.invariant-loop-b
+invariant-loop-b l = l.h < 65521

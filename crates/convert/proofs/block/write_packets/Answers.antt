@@ -7,7 +7,7 @@ use native.Mathlib.Numerals.{add-one}
 use borrow.Rule.Slice.PartMut.{put_mid}
 use lib.ListN.{length, take, drop}
 use Rattle.wire.specs.Bytes.{put}
-use Rattle.wire.proofs.Bytes.{put_all, put_mid_lem, length_part}
+use Rattle.wire.proofs.Bytes.{put_mid_lem, length_part}
 use Rattle.packet.specs.Layout.{packet_bytes}
 use Rattle.convert.specs.Block.{written, counted, written_all, counted_all}
 use Rattle.convert.proofs.BlockLaws.{length_written, rest_kept, next_written, next_counted}
@@ -16,8 +16,7 @@ use Rattle.convert.proofs.block.write_packets.Goals as goal
 
 pub loop-i-init : goal.loop-i-init
 unfolding written_all counted_all
-loop-i-init c =
-    (omega arith, c.put_bytes.ensures ∙ put_all c.args.out.now c.args.block.now c.requires.0, refl, search rules)
+loop-i-init c = (omega arith, c.copy_from_slice.ensures.after, refl, search rules)
 
 pub write_packet-after-requires : goal.write_packet-after-requires
 write_packet-after-requires c =

@@ -8,14 +8,14 @@ use Rattle.decode.proofs.faults.codes_good.Goals as goal
 
 pub loop-i-init : goal.loop-i-init
 unfolding codes_good
-loop-i-init c = (omega arith, each_start _)
+loop-i-init c = each_start _
 
 pub loop-i-preserved : goal.loop-i-preserved
 unfolding codes_good
 loop-i-preserved c =
     let mark = mark_of c.args.packet.now in
-    (omega arith, each_turn _ c.loop-i.i c.loop-i.invariant.1 (c.valid-good.ensures ∙ ap (valid_by mark) c.u16_at-code.ensures))
+    each_turn _ c.loop-i.i c.loop-i.invariant (c.valid-good.ensures ∙ ap (valid_by mark) c.read-code.ensures)
 
 pub returns : goal.returns
 unfolding codes_good
-returns c = each_end _ c.loop-i.i c.args.n (omega arith) (omega arith) c.loop-i.invariant.1
+returns c = each_end _ c.loop-i.i c.args.n (omega arith) (omega arith) c.loop-i.invariant

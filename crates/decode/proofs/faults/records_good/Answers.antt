@@ -6,12 +6,12 @@ use Rattle.decode.proofs.faults.records_good.Goals as goal
 
 pub loop-i-init : goal.loop-i-init
 unfolding records_good
-loop-i-init c = (omega arith, each_start _)
+loop-i-init c = each_start _
 
 pub loop-i-preserved : goal.loop-i-preserved
 unfolding records_good
-loop-i-preserved c = (omega arith, each_turn _ c.loop-i.i c.loop-i.invariant.1 c.record_fits-good.ensures)
+loop-i-preserved c = each_turn _ c.loop-i.i c.loop-i.invariant c.record_fits-good.ensures
 
 pub returns : goal.returns
 unfolding records_good
-returns c = each_end _ c.loop-i.i c.args.n (omega arith) (omega arith) c.loop-i.invariant.1
+returns c = each_end _ c.loop-i.i c.args.n (omega arith) (omega arith) c.loop-i.invariant

@@ -1,11 +1,7 @@
 -- `records_good` has tested, after i turns, the first i records.
-use Prim.Native.Nat.{◌≤◌, ◌-◌}
 use mathlib.Core.Path.{◌≡◌}
 use Rattle.decode.specs.Read.{records_good}
 use Rattle.decode.proofs.faults.records_good.Given as goal
 
 abbrev pub invariant-loop-i : goal.invariant-loop-i
-invariant-loop-i l = (l.i ≤ l.n) × (l.good ≡ records_good l.i l.packet)
-
-abbrev pub decreases-loop-i : goal.decreases-loop-i
-decreases-loop-i l = l.n - l.i
+invariant-loop-i l = l.good ≡ records_good l.i l.packet

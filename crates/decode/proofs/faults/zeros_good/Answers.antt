@@ -1,18 +1,27 @@
 -- `zeros_good` has tested, after i turns, the first i bytes.
-use mathlib.Core.Path.{refl}
+use mathlib.Core.Path.{ap, ◌∙◌}
+use Prim.Native.Nat.{ℕ, ◌+◌, ◌-◌}
 use native.Mathlib.Omega.{arith}
+use lib.Dec.{eqb}
+use lib.ListN.{drop}
+use Rattle.std.proofs.lemmas.List.{get_or-take, get_or-drop}
 use Rattle.decode.specs.Read.{zeros_good}
 use Rattle.wire.proofs.Pieces.{each_start, each_turn, each_end}
 use Rattle.decode.proofs.faults.zeros_good.Goals as goal
 
-pub loop-i-init : goal.loop-i-init
+pub loop-byte-init : goal.loop-byte-init
 unfolding zeros_good
-loop-i-init c = (omega arith, each_start _)
+loop-byte-init c = each_start _
 
-pub loop-i-preserved : goal.loop-i-preserved
+pub loop-byte-preserved : goal.loop-byte-preserved
 unfolding zeros_good
-loop-i-preserved c = (omega arith, each_turn _ c.loop-i.i c.loop-i.invariant.1 refl)
+loop-byte-preserved c =
+    let a = c.args in
+    let i = c.loop-byte.byte-index in
+    each_turn _ i c.loop-byte.invariant
+    (ap (λ (x : ℕ). eqb x 0)
+    (get_or-take (a.at + a.n - a.at) (drop a.at a.packet.now) i 0 (omega arith) ∙ get_or-drop a.at a.packet.now i 0))
 
 pub returns : goal.returns
 unfolding zeros_good
-returns c = each_end _ c.loop-i.i c.args.n (omega arith) (omega arith) c.loop-i.invariant.1
+returns c = each_end _ c.loop-byte.byte-index c.args.n (omega arith) (omega arith) c.loop-byte.invariant

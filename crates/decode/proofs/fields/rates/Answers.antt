@@ -9,23 +9,22 @@ use Rattle.decode.proofs.fields.rates.Goals as goal
 
 pub loop-i-init : goal.loop-i-init
 unfolding rates_of
-loop-i-init c = (omega arith, table_none _, refl)
+loop-i-init c = (table_none _, refl)
 
 pub least_count-requires : goal.least_count-requires
 unfolding codes_good
-least_count-requires c = ap (valid_by (mark_of c.args.packet.now)) c.u16_at-code.ensures ∙ each_at _ _ c.loop-i.i (omega arith) c.requires.packet_value
+least_count-requires c = ap (valid_by (mark_of c.args.packet.now)) c.read-code.ensures ∙ each_at _ _ c.loop-i.i (omega arith) c.requires.packet_value
 
 pub loop-i-preserved : goal.loop-i-preserved
 unfolding rates_of
 loop-i-preserved c =
     let mark = mark_of c.args.packet.now in
     let i = c.loop-i.i in (
-      omega arith,
-      table_turn _ c.loop-i.counts i (omega arith) c.loop-i.invariant.1
-          (c.least_count.ensures ∙ ap (least_by mark) c.u16_at-code.ensures),
-      simp length-set c.loop-i.invariant.2,
+      table_turn _ c.loop-i.counts i (omega arith) c.loop-i.invariant.0
+          (c.least_count.ensures ∙ ap (least_by mark) c.read-code.ensures),
+      simp length-set c.loop-i.invariant.1,
     )
 
 pub returns : goal.returns
 unfolding rates_of
-returns c = table_end _ c.loop-i.counts c.loop-i.i _ (omega arith) (omega arith) c.loop-i.invariant.2 c.loop-i.invariant.1
+returns c = table_end _ c.loop-i.counts c.loop-i.i _ (omega arith) (omega arith) c.loop-i.invariant.1 c.loop-i.invariant.0

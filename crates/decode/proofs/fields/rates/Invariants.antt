@@ -1,12 +1,8 @@
 -- `rates` has filled, after i turns, the first i counts, and each code it reads is valid.
-use Prim.Native.Nat.{◌≤◌, ◌-◌}
 use mathlib.Core.Path.{◌≡◌}
 use lib.ListN.{length, take}
 use Rattle.decode.specs.Read.{rates_of}
 use Rattle.decode.proofs.fields.rates.Given as goal
 
 abbrev pub invariant-loop-i : goal.invariant-loop-i
-invariant-loop-i l = (l.i ≤ length l.initial.counts) × (take l.i l.counts ≡ rates_of l.i l.packet) × (length l.counts ≡ length l.initial.counts)
-
-abbrev pub decreases-loop-i : goal.decreases-loop-i
-decreases-loop-i l = length l.initial.counts - l.i
+invariant-loop-i l = (take l.i l.counts ≡ rates_of l.i l.packet) × (length l.counts ≡ length l.initial.counts)

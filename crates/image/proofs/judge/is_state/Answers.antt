@@ -10,15 +10,15 @@ use Rattle.image.proofs.judge.is_state.Invariants.{right}
 use Rattle.image.proofs.judge.is_state.Goals as goal
 
 pub loop-i-init : goal.loop-i-init
-loop-i-init c = (omega arith, each_start (right c.args.image.now))
+loop-i-init c = each_start (right c.args.image.now)
 
 pub loop-i-preserved : goal.loop-i-preserved
 loop-i-preserved c =
     let b = c.args.image.now in
     let i = c.loop-i.i in
     let kind = get_or b (entries_at + entry_bytes * i) 0 in
-    (omega arith, each_turn (right b) i c.loop-i.invariant.1 (c.entry_good-ok.ensures ∙ ap (entry_good kind) c.u32_at.ensures))
+    each_turn (right b) i c.loop-i.invariant (c.entry_good-ok.ensures ∙ ap (entry_good kind) c.read.ensures)
 
 pub returns : goal.returns
 unfolding image_good
-returns c = each_end (right c.args.image.now) c.loop-i.i 32 (omega arith) (omega arith) c.loop-i.invariant.1
+returns c = each_end (right c.args.image.now) c.loop-i.i 32 (omega arith) (omega arith) c.loop-i.invariant

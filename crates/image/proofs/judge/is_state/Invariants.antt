@@ -1,5 +1,5 @@
 -- After i turns `is_state` has judged the first i entries.
-use Prim.Native.Nat.{ℕ, ◌≤◌, ◌-◌, ◌+◌, ◌*◌}
+use Prim.Native.Nat.{ℕ, ◌+◌, ◌*◌}
 use mathlib.Core.Bool.{Bool}
 use mathlib.Core.List.{List}
 use mathlib.Core.Path.{◌≡◌}
@@ -16,7 +16,4 @@ right b i =
     let at = entries_at + entry_bytes * i in entry_good (get_or b at 0) (at32 b (at + 1))
 
 abbrev pub invariant-loop-i : goal.invariant-loop-i
-invariant-loop-i l = (l.i ≤ 32) × (l.ok ≡ each l.i (right l.image))
-
-abbrev pub decreases-loop-i : goal.decreases-loop-i
-decreases-loop-i l = 32 - l.i
+invariant-loop-i l = l.ok ≡ each l.i (right l.image)

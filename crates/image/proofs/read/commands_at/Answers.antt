@@ -8,16 +8,15 @@ use Rattle.image.proofs.read.commands_at.Goals as goal
 
 pub loop-i-init : goal.loop-i-init
 unfolding commands_at
-loop-i-init c = (omega arith, waitings_none _, refl)
+loop-i-init c = (waitings_none _, refl)
 
 pub loop-i-preserved : goal.loop-i-preserved
 unfolding commands_at
 loop-i-preserved c = (
-  omega arith,
-  waitings_turn _ c.loop-i.a c.loop-i.i (omega arith) c.loop-i.invariant.1 c.entry_at-w.ensures,
-  simp length-set c.loop-i.invariant.2,
+  waitings_turn _ c.loop-i.entry-items c.loop-i.i (omega arith) c.loop-i.invariant.0 c.entry_at.ensures,
+  simp length-set c.loop-i.invariant.1,
 )
 
 pub returns : goal.returns
 unfolding commands_at
-returns c = waitings_end _ c.loop-i.a c.loop-i.i _ (omega arith) (omega arith) c.loop-i.invariant.2 c.loop-i.invariant.1
+returns c = waitings_end _ c.loop-i.entry-items c.loop-i.i _ (omega arith) (omega arith) c.loop-i.invariant.1 c.loop-i.invariant.0

@@ -1,23 +1,18 @@
 -- `words_at` has filled, after i turns, the first i words.
-use Rattle.wire.proofs.Pieces.{table_none, table_turn, table_end}
 use mathlib.Core.Path.{refl}
 use native.Mathlib.Omega.{arith}
 use lib.ListN.{length-set}
+use Rattle.wire.proofs.Pieces.{table_none, table_turn}
 use Rattle.image.specs.Image.{numbers_at}
 use Rattle.image.proofs.read.words_at.Goals as goal
 
 pub loop-i-init : goal.loop-i-init
 unfolding numbers_at
-loop-i-init c = (omega arith, table_none _, refl)
+loop-i-init c = (table_none _, refl)
 
 pub loop-i-preserved : goal.loop-i-preserved
 unfolding numbers_at
 loop-i-preserved c = (
-  omega arith,
-  table_turn _ c.loop-i.out c.loop-i.i (omega arith) c.loop-i.invariant.1 c.u32_at.ensures,
-  simp length-set c.loop-i.invariant.2,
+  table_turn _ c.loop-i.out c.loop-i.i (omega arith) c.loop-i.invariant.0 c.read.ensures,
+  simp length-set c.loop-i.invariant.1,
 )
-
-pub returns : goal.returns
-unfolding numbers_at
-returns c = table_end _ c.loop-i.out c.loop-i.i _ (omega arith) (omega arith) c.loop-i.invariant.2 c.loop-i.invariant.1

@@ -1,12 +1,8 @@
 -- `words_at` has filled, after i turns, the first i words.
-use Prim.Native.Nat.{◌≤◌, ◌-◌}
 use mathlib.Core.Path.{◌≡◌}
 use lib.ListN.{length, take}
 use Rattle.image.specs.Image.{numbers_at}
 use Rattle.image.proofs.read.words_at.Given as goal
 
 abbrev pub invariant-loop-i : goal.invariant-loop-i
-invariant-loop-i l = (l.i ≤ length l.initial.out) × (take l.i l.out ≡ numbers_at l.image l.at l.i) × (length l.out ≡ length l.initial.out)
-
-abbrev pub decreases-loop-i : goal.decreases-loop-i
-decreases-loop-i l = length l.initial.out - l.i
+invariant-loop-i l = (take l.i l.out ≡ numbers_at l.image l.at l.i) × (length l.out ≡ length l.initial.out)

@@ -32,7 +32,7 @@ returns c =
     let l4 : length ((((F ++ I) ++ S) ++ O) ++ A) ≡ 774 = length-append (((F ++ I) ++ S) ++ O) A ∙ omega (arith, l3) in
     then xs 0 (((F ++ I) ++ S) ++ O) A 766
     (then xs 0 ((F ++ I) ++ S) O 566
-    (then xs 0 (F ++ I) S 562 (then xs 0 F I 2 c.put_u16.ensures c.put_interval.ensures refl (omega arith))
+    (then xs 0 (F ++ I) S 562 (then xs 0 F I 2 c.put.ensures c.put_interval.ensures refl (omega arith))
     c.put_settings.ensures (omega (arith, l1)) (omega arith))
     c.put_command_list.ensures (omega (arith, l2)) (omega arith))
     c.put_two.ensures (omega (arith, l3)) (omega arith)

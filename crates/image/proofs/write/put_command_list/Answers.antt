@@ -11,4 +11,4 @@ pub returns : goal.returns
 returns c =
     let a = c.args in
     then _ _ _ _ _ c.put_two.ensures c.put_commands.ensures refl (omega arith)
-    ∙ (λ i. put a.image.now 566 (two (c.low.ensures i) (c.low-2.ensures i) ++ commands_bytes a.o.waiting))
+    ∙ (λ i. put a.image.now 566 (two (c.low.ensures i) (c.low-2.ensures i) ++ commands_bytes a.o.now.waiting))

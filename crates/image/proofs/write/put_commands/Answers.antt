@@ -15,20 +15,19 @@ use Rattle.image.proofs.write.put_commands.Goals as goal
 
 pub loop-i-init : goal.loop-i-init
 unfolding commands_bytes
-loop-i-init c = (omega arith, put_nil _ _, refl)
+loop-i-init c = (put_nil _ _, refl)
 
 pub loop-i-preserved : goal.loop-i-preserved
 loop-i-preserved c =
     let a = c.args in
     let xs = a.image.now in
-    let ws = a.waiting in
+    let ws = a.waiting.now in
     let i = c.loop-i.i in
     let n : length ws ≡ 32 = search rules in
     let cb = command_bytes (get_or ws i filler).command in
     let lw : length (commands_bytes (take i ws)) ≡ 6 * i = length_commands_take ws i (omega arith) in (
-      omega arith,
       c.put_command.ensures
-          ∙ ap (λ (d : List ℕ). put d (a.at + 6 * i) cb) c.loop-i.invariant.1
+          ∙ ap (λ (d : List ℕ). put d (a.at + 6 * i) cb) c.loop-i.invariant.0
           ∙ put_put xs a.at (commands_bytes (take i ws)) cb (a.at + 6 * i) (omega arith) (omega arith)
           ∙ ap (λ (v : List ℕ). put xs a.at v) (sym (commands_take ws i (omega arith))),
       omega arith,
@@ -37,5 +36,5 @@ loop-i-preserved c =
 pub returns : goal.returns
 returns c =
     let a = c.args in
-    let n : length a.waiting ≡ 32 = search rules in
-    c.loop-i.invariant.1 ∙ ap (λ v. put a.image.now a.at (commands_bytes v)) (take_all c.loop-i.i a.waiting (omega arith))
+    let n : length a.waiting.now ≡ 32 = search rules in
+    c.loop-i.invariant.0 ∙ ap (λ v. put a.image.now a.at (commands_bytes v)) (take_all c.loop-i.i a.waiting.now (omega arith))

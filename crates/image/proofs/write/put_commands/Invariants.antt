@@ -1,5 +1,4 @@
 -- After i commands `put_commands` has put the six bytes of each of the first i, in order.
-use Prim.Native.Nat.{◌≤◌, ◌-◌}
 use mathlib.Core.Path.{◌≡◌}
 use lib.ListN.{length, take}
 use Rattle.wire.specs.Bytes.{put}
@@ -7,7 +6,4 @@ use Rattle.image.specs.Image.{commands_bytes}
 use Rattle.image.proofs.write.put_commands.Given as goal
 
 abbrev pub invariant-loop-i : goal.invariant-loop-i
-invariant-loop-i l = (l.i ≤ 32) × (l.image ≡ put l.initial.image l.at (commands_bytes (take l.i l.waiting))) × (length l.image ≡ length l.initial.image)
-
-abbrev pub decreases-loop-i : goal.decreases-loop-i
-decreases-loop-i l = 32 - l.i
+invariant-loop-i l = (l.image ≡ put l.initial.image l.at (commands_bytes (take l.i l.waiting))) × (length l.image ≡ length l.initial.image)

@@ -25,5 +25,5 @@ returns c =
     let used : c.put_two.new.image ≡ put c.put_counts.new.image 518 U =
     c.put_two.ensures ∙ (λ j. put c.put_counts.new.image 518 (two (c.low.ensures j) (c.low-2.ensures j))) in
     then xs 2 ((T ++ C) ++ U) (readings_bytes i.readings i.totals) 526
-    (then xs 2 (T ++ C) U 518 (then xs 2 T C 6 c.put_u32.ensures c.put_counts.ensures refl (omega arith)) used (omega arith) (omega arith))
+    (then xs 2 (T ++ C) U 518 (then xs 2 T C 6 c.put.ensures c.put_counts.ensures refl (omega arith)) used (omega arith) (omega arith))
     c.put_readings.ensures (omega arith) (omega arith)

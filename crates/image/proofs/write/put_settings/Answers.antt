@@ -11,6 +11,6 @@ use Rattle.image.proofs.write.put_settings.Goals as goal
 pub returns : goal.returns
 returns c =
     let a = c.args in
-    then _ _ _ _ _ (then _ _ _ _ _ c.put_u16.ensures c.put_u8.ensures refl (omega arith))
-    c.put_u8-2.ensures refl (omega arith)
+    then _ _ _ _ _ (then _ _ _ _ _ c.put.ensures c.put-2.ensures refl (omega arith))
+    c.put-3.ensures refl (omega arith)
     ∙ ap (λ (n : ℕ). put a.image.now limhi_at ((be16 a.s.limhi ++ one n) ++ one a.s.hvstep)) c.flags_of.ensures

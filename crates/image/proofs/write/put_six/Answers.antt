@@ -5,5 +5,5 @@ use Rattle.wire.proofs.Bytes.{then}
 use Rattle.image.proofs.write.put_six.Goals as goal
 
 pub returns : goal.returns
-returns c = then _ _ _ _ _ (then _ _ _ _ _ c.put_u8.ensures c.put_u32.ensures refl (omega arith))
-    c.put_u8-2.ensures refl (omega arith)
+returns c = then _ _ _ _ _ (then _ _ _ _ _ c.put.ensures c.put-2.ensures refl (omega arith))
+    c.put-3.ensures refl (omega arith)

@@ -5,4 +5,4 @@ use Rattle.wire.proofs.Bytes.{then}
 use Rattle.image.proofs.write.put_two.Goals as goal
 
 pub returns : goal.returns
-returns c = then _ _ _ _ _ c.put_u32.ensures c.put_u32-2.ensures refl (omega arith)
+returns c = then _ _ _ _ _ c.put.ensures c.put-2.ensures refl (omega arith)

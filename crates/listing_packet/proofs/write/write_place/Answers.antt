@@ -9,5 +9,5 @@ pub returns : goal.returns
 unfolding place_bytes
 returns c =
     let h = c.requires in
-    then _ _ _ _ _ (then _ _ _ _ _ c.put_zeros.ensures c.put_u16.ensures refl (omega arith))
+    then _ _ _ _ _ (then _ _ _ _ _ c.put_zeros.ensures c.put.ensures refl (omega arith))
     c.put_u24.ensures refl (omega arith)

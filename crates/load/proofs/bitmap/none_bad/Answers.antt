@@ -1,15 +1,11 @@
 -- `none_bad` has found, from the whole bytes on and then turn by turn, whether none of the first i staged bytes is bad.
-use mathlib.Core.Path.{ap}
+use Rattle.std.proofs.Common.{ap, arith}
 use mathlib.Core.Bool.{not}
-use native.Mathlib.Omega.{arith}
 use Rattle.wire.proofs.Pieces.{each_turn, each_end}
 use Rattle.load.proofs.bitmap.none_bad.Goals as goal
 
-pub loop-i-init : goal.loop-i-init
-loop-i-init c = (omega arith, c.none_whole-good.ensures)
-
 pub loop-i-preserved : goal.loop-i-preserved
-loop-i-preserved c = (omega arith, each_turn _ c.loop-i.i c.loop-i.invariant.1 (ap not c.is_bad.ensures))
+loop-i-preserved c = each_turn _ c.loop-i.i c.loop-i.invariant (ap not c.is_bad.ensures)
 
 pub returns : goal.returns
-returns c = each_end _ c.loop-i.i c.args.reach (omega arith) (omega arith) c.loop-i.invariant.1
+returns c = each_end _ c.loop-i.i c.args.reach (omega arith) (omega arith) c.loop-i.invariant

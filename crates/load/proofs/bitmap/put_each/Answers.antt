@@ -1,29 +1,24 @@
 -- `put_each` has put, after i turns, the bits of the first i staged bytes.
-use Prim.Native.Nat.{ℕ, ◌+◌}
-use mathlib.Core.Path.{◌≡◌, refl, ap, ◌∙◌}
-use native.Mathlib.Omega.{arith}
-use native.Mathlib.Numerals.{add-one}
-use mathlib.Core.List.{List}
-use lib.ListN.{length, length-set}
+use Rattle.std.proofs.Common.{◌≡◌, ℕ, ◌+◌, List, length, refl, ap, ◌∙◌, arith, add-one}
+use lib.ListN.{length-set}
 use Rattle.load.specs.Bitmap.{with_bad, bitmap_after}
 use Rattle.load.proofs.bitmap.put_each.Goals as goal
 
 pub loop-i-init : goal.loop-i-init
 unfolding bitmap_after
-loop-i-init c = (omega arith, refl, refl)
+loop-i-init c = (refl, refl)
 
 pub loop-i-preserved : goal.loop-i-preserved
 unfolding bitmap_after
 loop-i-preserved c =
     let a = c.args in
     let e = c.put_bit.ensures in (
-      omega arith,
-      rw add-one (e ∙ ap (λ (x : List ℕ). with_bad x (a.next + c.loop-i.i) a.bad) c.loop-i.invariant.1),
-      ap length e ∙ length-set c.loop-i.bitmap _ _ ∙ c.loop-i.invariant.2,
+      rw add-one (e ∙ ap (λ (x : List ℕ). with_bad x (a.next + c.loop-i.i) a.bad) c.loop-i.invariant.0),
+      ap length e ∙ length-set c.loop-i.bitmap _ _ ∙ c.loop-i.invariant.1,
     )
 
 pub returns : goal.returns
 returns c =
     let a = c.args in
     let e : c.loop-i.i ≡ a.n = omega arith in
-    c.loop-i.invariant.1 ∙ ap (λ (k : ℕ). bitmap_after a.bitmap.now a.next k a.bad) e
+    c.loop-i.invariant.0 ∙ ap (λ (k : ℕ). bitmap_after a.bitmap.now a.next k a.bad) e

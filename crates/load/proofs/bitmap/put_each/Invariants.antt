@@ -1,12 +1,7 @@
 -- `put_each` has put, after i turns, the bits of the first i staged bytes.
-use Prim.Native.Nat.{◌≤◌, ◌-◌}
-use mathlib.Core.Path.{◌≡◌}
-use lib.ListN.{length}
+use Rattle.std.proofs.Common.{◌≡◌, length}
 use Rattle.load.specs.Bitmap.{bitmap_after}
 use Rattle.load.proofs.bitmap.put_each.Given as goal
 
 abbrev pub invariant-loop-i : goal.invariant-loop-i
-invariant-loop-i l = (l.i ≤ l.n) × (l.bitmap ≡ bitmap_after l.initial.bitmap l.next l.i l.bad) × (length l.bitmap ≡ length l.initial.bitmap)
-
-abbrev pub decreases-loop-i : goal.decreases-loop-i
-decreases-loop-i l = l.n - l.i
+invariant-loop-i l = (l.bitmap ≡ bitmap_after l.initial.bitmap l.next l.i l.bad) × (length l.bitmap ≡ length l.initial.bitmap)

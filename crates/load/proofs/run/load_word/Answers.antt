@@ -15,7 +15,7 @@ returns c =
     let staged = s.staging.now in
     let w = s.width in
     let f : ℕ = w * s.k in
-    let e : f + c.smaller.result - f ≡ min w (s.n - f) = omega (arith, c.smaller.ensures) in
+    let e : f + c.min.result - f ≡ min w (s.n - f) = omega (arith, c.min.ensures) in
     c.put_packed.ensures
     ∙ ap (λ (b : List ℕ). put s.tables.now (s.at + 3 * s.k) (zeros (3 - w) ++ padded w b))
     (ap (λ (n : ℕ). take n (drop f staged)) e ∙ sym (part_of_reach staged w f s.n (omega arith) (omega arith)))

@@ -9,7 +9,7 @@ pub returns : goal.returns
 unfolding header
 returns c =
     let h = c.requires in
-    then _ _ _ _ _ (then _ _ _ _ _ (then _ _ _ _ _ (then _ _ _ _ _ c.put_u16.ensures c.put_u16-2.ensures refl (omega arith))
-    c.put_u16-3.ensures refl (omega arith))
-    c.put_u32.ensures refl (omega arith))
-    c.put_u8.ensures refl (omega arith)
+    then _ _ _ _ _ (then _ _ _ _ _ (then _ _ _ _ _ (then _ _ _ _ _ c.put.ensures c.put-2.ensures refl (omega arith))
+    c.put-3.ensures refl (omega arith))
+    c.put-4.ensures refl (omega arith))
+    c.put-5.ensures refl (omega arith)

@@ -5,4 +5,4 @@ use Rattle.packet.proofs.Written.{sum_written}
 use Rattle.packet.proofs.envelope.write_sum.Goals as goal
 
 pub returns : goal.returns
-returns c = sum_written c.args.part.now _ c.requires c.put_u8.ensures (ap (λ (n : ℕ). n % 256) c.byte_sum-sum.ensures.0)
+returns c = sum_written c.args.part.now _ c.requires c.put.ensures (ap (λ (n : ℕ). n % 256) c.byte_sum-sum.ensures.0)

@@ -8,25 +8,24 @@ use Rattle.packet.specs.TableSum.{added_row}
 use Rattle.packet.proofs.table_sum.add_row.Goals as goal
 
 pub loop-j-init : goal.loop-j-init
-loop-j-init c = (omega arith, c.requires.0, table_none _, λ k h. refl)
+loop-j-init c = (c.requires.0, table_none _, λ k h. refl)
 
-pub overflow_add-columns : goal.overflow_add-columns
-overflow_add-columns c =
+pub overflow_add-column : goal.overflow_add-column
+overflow_add-column c =
     let j = c.loop-j.j in
-    omega (arith, c.wide.ensures, c.loop-j.invariant.3 j (omega arith), c.requires.1 j)
+    omega (arith, c.from.ensures, c.loop-j.invariant.2 j (omega arith), c.requires.1 j)
 
 pub loop-j-preserved : goal.loop-j-preserved
 loop-j-preserved c =
     let j = c.loop-j.j in
     let v = c.loop-j.invariant in (
-      omega arith,
-      simp length-set v.1,
-      table_turn _ c.loop-j.columns j (omega arith) v.2 (omega (arith, c.wide.ensures, v.3 j (omega arith))),
-      λ k h. get_or-set_other c.loop-j.columns j k _ 0 (λ e. omega arith) ∙ v.3 k (omega arith),
+      simp length-set v.0,
+      table_turn _ c.loop-j.columns j (omega arith) v.1 (omega (arith, c.from.ensures, v.2 j (omega arith))),
+      λ k h. get_or-set_other c.loop-j.columns j k _ 0 (λ e. omega arith) ∙ v.2 k (omega arith),
     )
 
 pub returns : goal.returns
 unfolding added_row
 returns c =
     let v = c.loop-j.invariant in
-    table_end _ c.loop-j.columns c.loop-j.j 48 (omega arith) (omega arith) v.1 v.2
+    table_end _ c.loop-j.columns c.loop-j.j 48 (omega arith) (omega arith) v.0 v.1

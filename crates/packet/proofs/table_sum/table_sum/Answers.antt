@@ -26,15 +26,14 @@ module _ (tables : List ℕ) where
       (first_more tables 20993 ∙ ap (λ (n : ℕ). n + word_at tables (first + 20993)) (first_more tables 20992))
 
 pub loop-k-init : goal.loop-k-init
-loop-k-init c = (omega arith, omega arith, sym (no_words _ 0))
+loop-k-init c = (omega arith, sym (no_words _ 0))
 
 pub loop-k-preserved : goal.loop-k-preserved
 loop-k-preserved c =
     let v = c.loop-k.invariant in
     let more = block_more c.args.tables.now c.loop-k.k in (
-      omega arith,
-      omega (arith, v.1, c.block_sum-sum.ensures.1),
-      omega (arith, v.2, c.block_sum-sum.ensures.0, more),
+      omega (arith, v.0, c.block_sum-sum.ensures.1),
+      omega (arith, v.1, c.block_sum-sum.ensures.0, more),
     )
 
 pub returns : goal.returns
@@ -42,10 +41,10 @@ unfolding table_sum
 returns c =
     let tables = c.args.tables.now in
     let n : 2624 * c.loop-k.k ≡ 20992 = omega arith in
-    let e = c.loop-k.invariant.2 ∙ ap (word_sum tables 0) n in
-    let ea = c.wide32-sum.ensures ∙ c.word.ensures.0 in
-    let eb = c.wide32-sum-2.ensures ∙ c.word-2.ensures.0 in
-    let ec = c.wide32-sum-3.ensures ∙ c.word-3.ensures.0 in (
+    let e = c.loop-k.invariant.1 ∙ ap (word_sum tables 0) n in
+    let ea = c.from-sum.ensures ∙ c.word.ensures.0 in
+    let eb = c.from-sum-2.ensures ∙ c.word-2.ensures.0 in
+    let ec = c.from-sum-3.ensures ∙ c.word-3.ensures.0 in (
       (λ i. (e i + ea i + eb i + ec i) % 16777216)
           ∙ ap (λ (n : ℕ). n % 16777216) (sym (words_by_address tables table_words ∙ three-more tables)),
       omega arith,

@@ -1,5 +1,4 @@
 -- `write_codes` has put, after i turns, the second edition's codes of the first i counts one behind the other.
-use Prim.Native.Nat.{◌≤◌, ◌-◌}
 use mathlib.Core.Path.{◌≡◌}
 use lib.ListN.{length, take}
 use Rattle.wire.specs.Bytes.{put}
@@ -8,7 +7,4 @@ use Rattle.packet.specs.Packet.{codes}
 use Rattle.packet.proofs.write.write_codes.Given as goal
 
 abbrev pub invariant-loop-i : goal.invariant-loop-i
-invariant-loop-i l = (l.i ≤ length l.counts) × (l.part ≡ put l.initial.part l.at (codes second_mark (take l.i l.counts))) × (length l.part ≡ length l.initial.part)
-
-abbrev pub decreases-loop-i : goal.decreases-loop-i
-decreases-loop-i l = length l.counts - l.i
+invariant-loop-i l = (l.part ≡ put l.initial.part l.at (codes second_mark (take l.i l.counts))) × (length l.part ≡ length l.initial.part)

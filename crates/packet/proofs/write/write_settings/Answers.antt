@@ -15,8 +15,8 @@ returns c =
     let a = c.args in
     let h = c.requires in
     let e = c.flags.ensures in
-    then _ _ _ _ _ (then _ _ _ _ _ (then _ _ _ _ _ (then _ _ _ _ _ c.put_u8.ensures c.put_u8-2.ensures refl (omega arith))
-    c.put_u8-3.ensures refl (omega arith))
-    c.put_u16.ensures refl (omega arith))
+    then _ _ _ _ _ (then _ _ _ _ _ (then _ _ _ _ _ (then _ _ _ _ _ c.put.ensures c.put-2.ensures refl (omega arith))
+    c.put-3.ensures refl (omega arith))
+    c.put-4.ensures refl (omega arith))
     c.put_u24.ensures refl (omega arith)
     ∙ ap (λ (n : ℕ). put a.part.now gap_at (one 0 ++ one a.s.hvstep ++ one n ++ be16 a.s.limhi ++ be24 a.sum)) e

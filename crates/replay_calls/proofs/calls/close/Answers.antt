@@ -1,9 +1,9 @@
 -- `close` hands on what the processor's close makes of state, tables and slots, after it is printed.
-use mathlib.Core.Path.{sym}
+use Rattle.std.proofs.Common.{sym}
 use Rattle.replay_calls.proofs.calls.close.Goals as goal
 
-pub returns : goal.returns
-returns c =
-    let e = c.close-closed.ensures in
-    let t = sym c.u32_at-time.ensures in
-    record { answer = rw t (λ j. (e.answer j).state); tables = rw t e.tables; slots = rw t e.slots }
+pub returns-clause-tables : goal.returns-clause-tables
+returns-clause-tables c = rw (sym c.read-time.ensures) c.close-ended.ensures.tables
+
+pub returns-clause-slots : goal.returns-clause-slots
+returns-clause-slots c = rw (sym c.read-time.ensures) c.close-ended.ensures.slots

@@ -1,14 +1,10 @@
--- The scan of `all_good` has tested what is behind it.
-use Prim.Native.Nat.{◌≤◌, ◌-◌}
+-- What `all_good` has found and what the slots ahead hold are together what all slots hold.
 use mathlib.Core.Bool.{◌&&◌}
 use mathlib.Core.Path.{◌≡◌}
-use lib.ListN.{length, drop}
+use lib.ListN.{drop}
 use Rattle.wire.specs.Lists.{all}
 use Rattle.sample_record.specs.Record.{record_good}
 use Rattle.samples.proofs.at_close.all_good.Given as goal
 
-abbrev pub invariant-loop-i : goal.invariant-loop-i
-invariant-loop-i l = (l.i ≤ length l.slots) × ((l.ok && all record_good (drop l.i l.slots)) ≡ all record_good l.slots)
-
-abbrev pub decreases-loop-i : goal.decreases-loop-i
-decreases-loop-i l = length l.slots - l.i
+abbrev pub invariant-loop-slot : goal.invariant-loop-slot
+invariant-loop-slot l = (l.ok && all record_good (drop l.slot-index l.slots)) ≡ all record_good l.slots

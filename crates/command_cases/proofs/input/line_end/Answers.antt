@@ -1,1 +1,0 @@
--- `line_end` finds the first line end from a place on, or the end of the text.

@@ -1,1 +1,0 @@
--- `run` takes line after line, and each ends behind where it began.

@@ -1,1 +1,0 @@
--- `bytes` prints the bytes one after the other.

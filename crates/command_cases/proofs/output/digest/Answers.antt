@@ -1,1 +1,0 @@
--- `digest` goes through the bytes and stays below its modulus.

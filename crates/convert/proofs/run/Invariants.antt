@@ -1,5 +1,0 @@
--- The turns left become fewer.
-use Rattle.convert.proofs.run.Given as goal
-
-abbrev pub decreases-loop-turns : goal.decreases-loop-turns
-decreases-loop-turns l = l.turns

@@ -1,1 +1,0 @@
--- `counts_line` reads each count inside the slice, and ends.

@@ -1,1 +1,0 @@
--- `hex_line` reads each byte inside the slice, and ends.

@@ -1,1 +1,0 @@
--- `fill_records` writes inside the slice, and its number stays below 2^24.

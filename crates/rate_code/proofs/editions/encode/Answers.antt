@@ -1,9 +1,0 @@
--- `encode` goes by whether the mark is 0.
-use borrow.Author.Tests.{eq-eqb, ne_eqb}
-use Rattle.rate_code.proofs.editions.encode.Goals as goal
-
-pub returns-then-mark-eq-FIRST_MARK : goal.returns-then-mark-eq-FIRST_MARK
-returns-then-mark-eq-FIRST_MARK c = simp (eq-eqb _ _ c.if-mark-eq-FIRST_MARK.true) c.encode.ensures
-
-pub returns : goal.returns
-returns c = simp (ne_eqb _ _ c.if-mark-eq-FIRST_MARK.false) c.encode-2.ensures

@@ -1,1 +1,0 @@
--- `counted_numbers` reads each count within the slice.

@@ -1,1 +1,0 @@
--- `fill` writes 20,995 words of three bytes, each within the tables, whose length stays.

@@ -1,1 +1,0 @@
--- `place_all` keeps the number of slots, so that LIMHI stays within them at every call of `place`.

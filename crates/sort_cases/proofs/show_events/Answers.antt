@@ -1,1 +1,0 @@
--- `show_events` stays within the list of 80 numbers, five for each of 16 events.
