@@ -3,6 +3,7 @@
 
     tools/places.py [POINT..]     all points, or those named, as `tools/places.py 1 3`
     tools/places.py --counts      the counts alone
+    tools/places.py --in FOLDER   of another checkout; with the other words behind it
 
 What a regular expression can't tell, as whether two functions are twins, is judged by eye in the page; the list is where to look."""
 import re
@@ -10,7 +11,11 @@ import sys
 from collections import defaultdict
 from pathlib import Path
 
-TOP = Path(__file__).resolve().parent.parent
+WORDS = sys.argv[1:]
+if WORDS[:1] == ["--in"]:
+    TOP, WORDS = Path(WORDS[1]).resolve(), WORDS[2:]
+else:
+    TOP = Path(__file__).resolve().parent.parent
 FILES = sorted(TOP.glob("crates/*/src/*.rt"))
 
 
@@ -109,13 +114,13 @@ POINTS = {
 
 
 def main():
-    only = [it for it in sys.argv[1:] if it != "--counts"]
+    only = [it for it in WORDS if it != "--counts"]
     for title, places in POINTS.items():
         if only and title.split()[0] not in only:
             continue
         found = list(places())
         print(f"{len(found):5}  {title}")
-        if "--counts" not in sys.argv:
+        if "--counts" not in WORDS:
             for it in found:
                 print(f"         {it}")
 
