@@ -86,7 +86,8 @@ pub fn convert(wanted: u8, packet: &[u8], out: &mut [u8]) -> Conversion
     }
 }
 
-// Any bytes: a rate or beacon packet of the first edition is written in the second.
+// Any bytes: a rate or beacon packet of the first edition is written in the second. Named, as the other below, since callers know
+// the edition and no mark.
 pub fn to_second(packet: &[u8], out: &mut [u8]) -> Result<(), Cause>
     ensures number { call_number result ≡ (to_second packet.now out.old).number }
     ensures out { out.new ≡ (to_second packet.now out.old).out }

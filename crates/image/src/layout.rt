@@ -44,7 +44,7 @@ pub const TOFERROR_FLAG: u8 = 32;
 
 pub const JUNK_FLAG: u8 = 16;
 
-// The kinds of settings are below this one.
+// The kinds of settings are below this one. They stay bytes: an entry may have any byte as its kind, and `judge` tells them apart.
 pub const SETTING_KINDS: u8 = 6;
 
 pub const LOAD_KIND: u8 = 255;
