@@ -34,6 +34,6 @@ fn print_ended(text: &mut Text, frame: u16, ended: Summary, packets: &[u8]) {
 pub fn print_close(text: &mut Text, frame: u16, answer: Result<Summary, Cause>, packets: &[u8]) {
     match answer {
         Ok(ended) => print_ended(text, frame, ended, packets),
-        Err(cause) => print_number(text, "close", cause.number()),
+        Err(_) => print_number(text, "close", &answer),
     }
 }

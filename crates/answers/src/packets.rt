@@ -1,7 +1,6 @@
 // What the ground reader makes of a packet, printed.
 use crate::calls::{print_bytes, print_number};
 use buffered::text::{Numbers, Text};
-use causes::call_number;
 use ground::{Contents, Packet};
 use settings::Settings;
 
@@ -33,6 +32,7 @@ fn print_rates(text: &mut Text, rates: &[u32]) {
     writeln!(text, "rates{}", Numbers(rates));
 }
 
+// A `match`, since each kind has fields of its own.
 fn print_contents(text: &mut Text, packet: Packet, bytes: &[u8]) {
     match packet.contents {
         Contents::Rate {
@@ -41,7 +41,7 @@ fn print_contents(text: &mut Text, packet: Packet, bytes: &[u8]) {
             settings,
             sum,
         } => {
-            print_header(text, "rate", packet, mark);
+            print_header(text, "rate", packet, mark.number());
             print_rates(text, &rates);
             print_settings(text, settings, sum);
         }
@@ -50,7 +50,7 @@ fn print_contents(text: &mut Text, packet: Packet, bytes: &[u8]) {
             print_bytes(text, "records", ground::records(bytes));
         }
         Contents::Beacon { mark, beacons } => {
-            print_header(text, "beacon", packet, mark);
+            print_header(text, "beacon", packet, mark.number());
             print_rates(text, &beacons);
         }
     }
@@ -58,7 +58,7 @@ fn print_contents(text: &mut Text, packet: Packet, bytes: &[u8]) {
 
 pub fn print_packet(text: &mut Text, bytes: &[u8]) {
     let read = ground::read(bytes);
-    print_number(text, "packet", call_number(&read));
+    print_number(text, "packet", &read);
     if let Ok(packet) = read {
         print_contents(text, packet, bytes);
     }

@@ -2,7 +2,7 @@
 use crate::input::read_full;
 use std::fs::File;
 
-// Reads the file; whether it is as long as the buffer.
+// Reads the file; whether it is as long as the buffer: a `bool`, since what failed is told where it is read.
 fn read_whole(rt: &HostRuntime, file: &mut File, tables: &mut [u8]) -> bool {
     let what = b"cannot read tables.bin";
     if read_full(rt, file, tables, what).bytes < tables.len() {

@@ -7,7 +7,8 @@ use crate::transfer::tell;
 use std::io::{Error, ErrorKind, Read};
 use std::marker::Model;
 
-// The bytes of the buffer from `at` to before `end` are read and not yet used: a contract sees these, which wait.
+// The bytes of the buffer from `at` to before `end` are read and not yet used: a contract sees these, which wait. No `BufReader`,
+// whose buffer is on the heap.
 #[derive(Drop)]
 pub struct Input<'a> {
     buffer: &'a mut [u8],
@@ -26,7 +27,8 @@ impl<'a> Model for Input<'a> {
 // Room for the longest body, and for much input at a time.
 pub const INPUT_BYTES: usize = 131072;
 
-// What was read: how many bytes there are now, which a failure of the last read leaves, and that failure.
+// What was read: how many bytes there are now, and the failure of the last read. No `Result`, since what was read before a failure
+// counts.
 #[derive(Clone, Copy)]
 pub struct Filled {
     pub bytes: usize,
@@ -84,7 +86,7 @@ fn read_told<R: Read>(
     got
 }
 
-// Fills the buffer as far as the file goes. A failed read is told as what could not be done.
+// Fills the buffer as far as the file goes. A failed read is told as what could not be done: bytes, as they are written.
 pub fn read_full<R: Read>(rt: &HostRuntime, from: &mut R, buffer: &mut [u8], what: &[u8]) -> Filled
     ensures { result.bytes ≤ length buffer.old }
 {

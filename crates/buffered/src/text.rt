@@ -9,7 +9,8 @@ use std::io::{ErrorKind, Write};
 
 pub const TEXT_BYTES: usize = 65536;
 
-// Writes the bytes to standard output; whether all of them. That nobody reads them any more is not told.
+// Writes the bytes to standard output; whether all of them: a `bool`, since what failed is told here. That nobody reads them any
+// more is not.
 pub fn print(rt: &HostRuntime, bytes: &[u8]) -> bool {
     match rt.stdout().write_all(bytes) {
         Ok(()) => true,
@@ -23,7 +24,7 @@ pub fn print(rt: &HostRuntime, bytes: &[u8]) -> bool {
 }
 
 // The first `filled` bytes of the buffer are not yet written. Once a read or a write has failed, nothing is written any
-// more, and no more input read.
+// more, and no more input read. No `BufWriter`, whose buffer is on the heap.
 #[derive(Drop)]
 pub struct Text<'a> {
     rt: &'a HostRuntime,

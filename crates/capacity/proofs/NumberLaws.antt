@@ -1,7 +1,5 @@
 -- What holds of the numbers of every capacity. All that proofs know of them. Assumes nothing.
-use mathlib.Core.Path.{◌≡◌, refl}
-use Prim.Native.Nat.{◌+◌, ◌*◌, ◌<◌}
-use native.Mathlib.Omega.{arith}
+use Rattle.std.proofs.Common.{◌≡◌, refl, ◌+◌, ◌*◌, ◌<◌, arith}
 use Rattle.capacity.specs.declared.Capacity.{Capacity}
 use Rattle.capacity.specs.declared.Capacity.TheVariants.{Slots704}
 use Rattle.capacity.specs.Capacity.{numbers_of}

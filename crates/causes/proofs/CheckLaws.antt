@@ -1,12 +1,7 @@
 -- What the number of a row of checks says: 0 where all are passed, and otherwise the lowest number that applies. Assumes nothing.
-use mathlib.Core.Path.{◌≡◌, refl, sym, ap, ◌∙◌}
-use mathlib.Core.Bool.{Bool, true, false, ◌&&◌, not, cond, false≢true}
-use mathlib.Core.List.{List, [], ◌∷◌, ◌++◌}
-use mathlib.Core.Logic.{◌⊎◌, inl, inr}
-use Prim.Native.Nat.{ℕ, ◌≤◌}
-use native.Mathlib.Omega.{arith}
-use borrow.Author.Tests.{leb-true}
-use lib.Dec.{leb}
+use Rattle.std.proofs.Common.{◌≡◌, refl, sym, ap, ◌∙◌, Bool, true, false, ◌&&◌, not, cond, List, [], ◌∷◌, ◌++◌, ◌⊎◌, inl, inr, ℕ}
+use Rattle.std.proofs.Common.{◌≤◌, arith, leb-true, leb}
+use Rattle.std.proofs.Math.Bool.{false≢true}
 use Rattle.causes.specs.Checks.{Check, number_by, Passed, Applies, numbered, none, ascending_by, itself, LowestBy, Lowest}
 
 and_parts : (a b : Bool) → (a && b) ≡ true → (a ≡ true) × (b ≡ true)

@@ -5,7 +5,7 @@ ghost use Rattle.std.specs.Prelude.{◌≡◌, ◌<◌, cond};
 ghost use Rattle.causes.specs.Causes.{cause_number, call_number};
 
 // The number of a call that is carried out.
-pub const CARRIED_OUT: u8 = 0;
+const CARRIED_OUT: u8 = 0;
 
 // Why a call is refused, by its number.
 #[derive(Clone, Copy, PartialEq, Eq)]
@@ -47,7 +47,7 @@ pub enum Cause {
 }
 
 impl Cause {
-    // The cause's number.
+    // The cause's number. A method and no `From`: its clause says too that none is 0, and `u8::from` would be no plainer.
     pub fn number(self) -> u8
         ensures { (result ≡ cause_number self) × (0 < result) }
     {

@@ -1,18 +1,10 @@
 -- Laws of digits and arguments. Assumes nothing.
-use mathlib.Core.Path.{◌≡◌, sym, ap}
-use mathlib.Core.Bool.{true, false, ◌&&◌, ◌||◌, cond}
-use Rattle.std.specs.Prelude.{Some, None}
+use Rattle.std.proofs.Common.{◌≡◌, sym, ap, true, false, ◌&&◌, ◌||◌, cond, List, ◌⊎◌, inl, inr, ⊎_elim, ℕ, ◌+◌, ◌*◌, ◌^◌, ◌≤◌, ◌<◌}
+use Rattle.std.proofs.Common.{arith, pow-suc, add-one, length, drop, drop_of_length-le, leb, ltb, eqb, lit<}
+use Rattle.std.proofs.Common.{leb-true, le-leb, ltb-true, ltb-false, eqb-true, Some, None}
+use borrow.Author.Tests.{lt-leb, eqb-false}
 use Rattle.std.proofs.lemmas.Option.{same_Some}
-use mathlib.Core.List.{List}
-use mathlib.Core.Logic.{◌⊎◌, inl, inr, ⊎_elim}
-use Prim.Native.Nat.{ℕ, ◌+◌, ◌*◌, ◌^◌, ◌≤◌, ◌<◌}
-use native.Mathlib.Omega.{arith}
-use native.Mathlib.Nat.{pow-suc, pow-le-pow_right}
-use native.Mathlib.Numerals.{add-one}
-use lib.ListN.{length, drop, get_or, drop_of_length-le}
-use lib.Seq.{drop-cons}
-use lib.Dec.{leb, ltb, eqb, lit<}
-use borrow.Author.Tests.{leb-true, le-leb, lt-leb, ltb-true, ltb-false, eqb-true, eqb-false}
+use Rattle.std.proofs.Math.Nat.{pow-le-pow_right}
 use Rattle.wire.specs.Lists.{all}
 use Rattle.wire.proofs.Lists.{and_split, and_false, or_split, decide}
 use Rattle.command.specs.Grammar.{is_digit, digit_value, hex_behind, hex_value, argument_of}
@@ -27,17 +19,6 @@ pub digit_range : (b : ℕ) → is_digit b ≡ true → ((48 ≤ b) × (b ≤ 57
 digit_range b h =
     ⊎_elim (λ p. inl (range 48 57 b p)) (λ p. inr (range 97 102 b p))
     (or_split (leb 48 b && leb b 57) (leb 97 b && leb b 102) h)
-
-pub digit_low : (b : ℕ) → is_digit b ≡ true → 48 ≤ b
-digit_low b h = ⊎_elim (λ p. p.0) (λ p. omega arith) (digit_range b h)
-
-pub digit_high : (b : ℕ) → is_digit b ≡ true → 57 < b → (97 ≤ b) × (b ≤ 102)
-digit_high b h g = ⊎_elim (λ p. omega arith) (λ p. p) (digit_range b h)
-
--- one digit more
-pub hex_step : (n : ℕ) (w : List ℕ) (i : ℕ) → i < length w
-    → hex_behind n (drop i w) ≡ hex_behind (16 * n + digit_value (get_or w i 0)) (drop (i + 1) w)
-hex_step n w i h = rw (add-one, drop-cons w i 0)
 
 pub hex_end : (n : ℕ) (w : List ℕ) (i : ℕ) → length w ≤ i → hex_behind n (drop i w) ≡ n
 hex_end n w i h = ap (hex_behind n) (drop_of_length-le w h)

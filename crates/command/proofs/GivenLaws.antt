@@ -1,14 +1,9 @@
 -- Each command in its ranges is given by some line: `command_ok` refuses no command that a line can give, and no line can
 -- give one that it refuses (`waits_ok`). Assumes nothing.
-use mathlib.Core.Path.{◌≡◌, ap, ◌∙◌}
-use mathlib.Core.Bool.{true, false}
-use mathlib.Core.List.{List, [], ◌∷◌, ◌++◌}
-use mathlib.Core.Logic.{⊎_elim}
-use Prim.Native.Nat.{ℕ, ◌+◌, ◌-◌, ◌/◌, ◌%◌, ◌≤◌, ◌<◌}
+use Rattle.std.proofs.Common.{◌≡◌, ap, ◌∙◌, true, false, List, [], ◌∷◌, ◌++◌, ⊎_elim, ℕ, ◌+◌, ◌-◌, ◌/◌, ◌%◌, ◌≤◌, ◌<◌, arith, leb}
+use Rattle.std.proofs.Common.{eqb, leb-true, leb-false, le-leb, ne_eqb, Option, Some}
+use borrow.Author.Tests.{lt-leb}
 use Prim.Native.String.{String}
-use native.Mathlib.Omega.{arith}
-use lib.Dec.{leb, eqb}
-use borrow.Author.Tests.{leb-true, leb-false, le-leb, lt-leb, ne_eqb}
 use Rattle.wire.specs.Lists.{all}
 use Rattle.wire.specs.Words.{same}
 use Rattle.wire.specs.Text.{text, hex_digit, hex2}
@@ -23,7 +18,6 @@ use Rattle.command.specs.declared.command.Command.TheVariants.{Set, Load}
 use Rattle.command.specs.declared.command.Setting.{Setting}
 use Rattle.command.specs.declared.command.Setting.TheVariants.{Limhi, Eonly, Toferror, Junk, Hv, Hvstep}
 use Rattle.command.specs.declared.command.Line.TheVariants.{Change, Commit}
-use Rattle.std.specs.Prelude.{Option, Some}
 use Rattle.command.specs.declared.ranges.Ranges.{Ranges}
 
 -- ---- a number in four digits

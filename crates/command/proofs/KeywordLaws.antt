@@ -1,8 +1,5 @@
 -- A line by its keyword: what the grammar says of a word and the words behind it goes by the keyword that it is. Assumes nothing.
-use mathlib.Core.Path.{◌≡◌, refl}
-use mathlib.Core.Bool.{false, true}
-use mathlib.Core.List.{List, [], ◌∷◌}
-use Prim.Native.Nat.{ℕ}
+use Rattle.std.proofs.Common.{◌≡◌, refl, false, true, List, [], ◌∷◌, ℕ}
 use Rattle.std.specs.Prelude.{Option, Some, None}
 use Rattle.wire.specs.Text.{text}
 use Rattle.wire.specs.Words.{same}

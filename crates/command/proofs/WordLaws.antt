@@ -1,16 +1,6 @@
 -- Laws of words, and of lines made of them. Assumes nothing.
-use mathlib.Core.Path.{◌≡◌, refl, sym, ap, ◌∙◌}
-use mathlib.Core.Bool.{Bool, false, ◌&&◌}
+use Rattle.std.proofs.Common.{◌≡◌, refl, sym, ap, ◌∙◌, Bool, false, ◌&&◌, List, [], ◌∷◌, ⊎_elim, ℕ, suc, ◌-◌, ◌≤◌, ◌<◌, arith, not-suc-le-zero, length, take, drop, length-drop, take_all, eqb, ltb, eqb-true, ltb-true, ltb-false}
 use Rattle.std.specs.List.{list_all}
-use mathlib.Core.List.{List, [], ◌∷◌}
-use mathlib.Core.Logic.{⊎_elim}
-use Prim.Native.Nat.{ℕ, suc, ◌-◌, ◌≤◌, ◌<◌}
-use native.Mathlib.Omega.{arith}
-use native.Mathlib.Nat.{not-suc-le-zero}
-use lib.ListN.{length, take, drop, length-drop}
-use lib.Seq.{take_all}
-use lib.Dec.{eqb, ltb}
-use borrow.Author.Tests.{eqb-true, ltb-true, ltb-false}
 use Rattle.wire.specs.Lists.{all}
 use Rattle.wire.specs.Words.{length_before}
 use Rattle.wire.proofs.Lists.{either, and_false}

@@ -3,7 +3,7 @@ use Rattle.std.specs.Prelude.{ℕ, cond, eqb, leb, List, [], ◌∷◌, Option, 
 use Rattle.wire.specs.Text.{text}
 use Rattle.wire.specs.Words.{same}
 use Rattle.load.specs.Load.{load_lawful}
-use Rattle.command.specs.Grammar.{argument_of, right_if, set_line, one_argument, two_arguments, three_arguments}
+use Rattle.command.specs.Grammar.{argument_of, right_if, set_line}
 use Rattle.command.specs.declared.command.Setting.TheVariants.{Limhi, Eonly, Toferror, Junk, Hv, Hvstep}
 use Rattle.command.specs.declared.command.Line.{Line}
 use Rattle.command.specs.declared.command.Line.TheVariants.{Wrong, LoadZero, LoadAt, Ask, Commit}
@@ -12,13 +12,6 @@ use Rattle.command.specs.declared.keyword.Keyword.TheVariants.{Sets, Load as loa
 use Rattle.command.specs.declared.keyword.Arguments.{Arguments}
 use Rattle.command.specs.declared.keyword.Arguments.TheVariants.{One, Two, Three}
 use Rattle.command.specs.declared.ranges.Ranges.{Ranges}
-
--- a keyword and its first argument, by the words behind them
-unfoldable pub more_words : List ℕ → Option ℕ → List (List ℕ) → Ranges → Line
-more_words k a [] ranges = one_argument k a ranges
-more_words k a (b ∷ []) ranges = two_arguments k a (argument_of b) ranges
-more_words k a (b ∷ c ∷ []) ranges = three_arguments k a (argument_of b) (argument_of c) ranges
-more_words k a (b ∷ c ∷ d ∷ ws) ranges = Wrong
 
 -- a refusal is a wrong line
 abbrev pub or_wrong : Option Line → Line

@@ -4,7 +4,7 @@ ghost use Rattle.command.specs.Grammar.{is_digit, digit_value, argument_of};
 
 const MAX_DIGITS: usize = 6;
 
-// The value of a digit 0-9 a-f, 0 to 15.
+// The value of a digit 0-9 a-f, 0 to 15. The library's `to_digit` takes capitals too.
 fn digit_value(b: u8) -> Option<u32>
     ensures { result ≡ cond (is_digit b) (Some (digit_value b)) None }
 {

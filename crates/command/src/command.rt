@@ -39,7 +39,7 @@ pub enum Line {
     LoadAt(u32),
     // Asks whether a load would be accepted, and for the sum of its bytes.
     Ask,
-    // The load's address and packing, and the sum that its bytes must have.
+    // The load's address, its y as in `Command::Load`, and the sum that its bytes must have.
     Commit(u32, u8, u32),
 }
 

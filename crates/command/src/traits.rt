@@ -1,4 +1,5 @@
-// A line's traits: what its checks and its effect go by.
+// A line's traits: what its checks and its effect go by. Flags and no enum: more than one holds of a line, and each is asked by
+// another check.
 ghost use Rattle.std.specs.Prelude.{◌≡◌};
 ghost use Rattle.command.specs.Asked.{no_command, about_load, other_command, traits_of, sum_agrees};
 
@@ -83,8 +84,5 @@ pub fn traits_of(l: Line) -> Traits
 pub fn sum_agrees(named: Option<u32>, sum: u32) -> bool
     ensures { result ≡ sum_agrees named sum }
 {
-    match named {
-        None => true,
-        Some(n) => n == sum,
-    }
+    named.is_none_or(|n| n == sum)
 }

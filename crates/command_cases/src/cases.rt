@@ -1,101 +1,99 @@
 // One case: a kind byte, and its body.
-ghost use Rattle.std.specs.Prelude.{◌≡◌, true, ◌≤◌, length};
+ghost use Rattle.std.specs.Prelude.{◌≡◌, true, ◌≤◌};
 ghost use Rattle.load.specs.Staging.{fits};
-ghost use Rattle.tables.specs.Tables.{table_bytes};
 
-use crate::output;
+use crate::output::{digest, show_echo, show_line};
 use causes::call_number;
 use command::line::MAX_LINE;
 use command::ranges::Ranges;
+use echo::Echo;
 use load::package::{Package, judge};
-use load::staging::Addresses;
+use load::staging::{Addresses, STAGING_BYTES};
+use tables::TABLE_BYTES;
 use wire::number::BigEndian;
 use wire::read::u24_at;
-
-const TABLE_BYTES: usize = 62985;
 
 // LIMHI's largest value in these cases.
 const LIMHI_MOST: u16 = 0x2c0;
 
 // 1: the reach in three bytes, and the line. Prints whether its bytes are right, and what it is.
-fn line_case(body: &[u8]) {
+fn line_case(rt: &HostRuntime, body: &[u8]) {
     if body.len() < 3 {
         return;
     }
     let line = &body[3..];
-    output::text(b"line ");
-    if command::line::bytes_ok(line) {
-        output::text(b"bytes ok, ");
+    let bytes = if command::line::bytes_ok(line) {
+        "ok"
     } else {
-        output::text(b"bytes wrong, ");
-    }
+        "wrong"
+    };
+    let _ = print!(rt; "line bytes {bytes}, ");
     let ranges = Ranges {
         reach: u24_at(body, 0),
         limhi: LIMHI_MOST,
     };
-    output::line(command::line::parse(line, ranges));
+    show_line(rt, command::line::parse(line, ranges));
 }
 
-fn show(echo: &[u8]) {
-    output::text(b"echo ");
-    output::bytes(echo);
-}
-
-// 2: the frame in two bytes, the sequence number, and the line. Prints the echo.
-fn accepted_case(body: &[u8]) {
-    if body.len() < 3 {
-        return;
-    }
-    let line = &body[3..];
+// 2: the frame in two bytes, the sequence number, and the line.
+fn write_accepted(echo: &mut Echo, body: &[u8]) -> Option<()> {
+    let line = body.get(3..)?;
     if MAX_LINE < line.len() {
-        return;
+        return None;
     }
-    let mut buffer = [255u8; 128];
-    echo::write_accepted(&mut buffer, u16::read(body, 0), body[2], line);
-    show(&buffer);
+    echo::write_accepted(echo, u16::read(body, 0), body[2], line);
+    Some(())
 }
 
 // 3: the line.
-fn refused_case(body: &[u8]) {
+fn write_refused(echo: &mut Echo, body: &[u8]) -> Option<()> {
     if MAX_LINE < body.len() {
-        return;
+        return None;
     }
-    let mut buffer = [255u8; 128];
-    echo::write_refused(&mut buffer, body);
-    show(&buffer);
+    echo::write_refused(echo, body);
+    Some(())
 }
 
 // 4: nothing.
-fn prompt_case() {
-    let mut buffer = [255u8; 128];
-    echo::write_prompt(&mut buffer);
-    show(&buffer);
+fn write_prompt(echo: &mut Echo) -> Option<()> {
+    echo::write_prompt(echo);
+    Some(())
 }
 
 // 5: the address and the number of bytes, four bytes each.
-fn right_case(body: &[u8]) {
+fn write_right(echo: &mut Echo, body: &[u8]) -> Option<()> {
     if body.len() < 8 {
-        return;
+        return None;
     }
-    let mut buffer = [255u8; 128];
-    echo::write_package_ok(&mut buffer, u32::read(body, 0), u32::read(body, 4));
-    show(&buffer);
+    echo::write_package_ok(echo, u32::read(body, 0), u32::read(body, 4));
+    Some(())
 }
 
 // 6: the same, and the received and the computed sum, two bytes each.
-fn sum_case(body: &[u8]) {
+fn write_wrong(echo: &mut Echo, body: &[u8]) -> Option<()> {
     if body.len() < 12 {
-        return;
+        return None;
     }
-    let mut buffer = [255u8; 128];
-    echo::write_package_error(
-        &mut buffer,
-        u32::read(body, 0),
-        u32::read(body, 4),
-        u16::read(body, 8),
-        u16::read(body, 10),
-    );
-    show(&buffer);
+    let (next, many) = (u32::read(body, 0), u32::read(body, 4));
+    let (received, computed) = (u16::read(body, 8), u16::read(body, 10));
+    echo::write_package_error(echo, next, many, received, computed);
+    Some(())
+}
+
+// Prints the echo of the kind, where the body has what it is made of. The kind is the
+// byte that the case's line begins with: as an enum it would be matched in the same two places.
+fn echo_case(rt: &HostRuntime, kind: u8, body: &[u8]) {
+    let mut echo = [255u8; 128];
+    let written = match kind {
+        2 => write_accepted(&mut echo, body),
+        3 => write_refused(&mut echo, body),
+        4 => write_prompt(&mut echo),
+        5 => write_right(&mut echo, body),
+        _ => write_wrong(&mut echo, body),
+    };
+    if written.is_some() {
+        show_echo(rt, &echo);
+    }
 }
 
 // Bytes that differ from place to place.
@@ -116,109 +114,82 @@ fn next_value(v: u32, step: u32) -> u32
 
 // 7: next address and reach, three bytes each, and the package. Prints its number, how many bytes it brings, the two sums,
 // the addresses afterwards and a digest of staging.
-fn package_case(body: &[u8]) {
+fn package_case(rt: &HostRuntime, body: &[u8]) {
     if body.len() < 6 {
         return;
     }
-    let a = Addresses {
+    let addresses = Addresses {
         next: u24_at(body, 0),
         reach: u24_at(body, 3),
     };
-    package(&body[6..], a);
-}
-
-fn package(bytes: &[u8], a: Addresses) {
-    let judged = judge(bytes, a.next);
-    output::labelled(b"package ", u32::from(call_number(&judged)));
+    let bytes = &body[6..];
+    let judged = judge(bytes, addresses.next);
+    let _ = print!(rt; "package {}", call_number(&judged));
     let Ok(sent) = Package::parse(bytes) else {
         return;
     };
-    if sent.fits(a.next) {
-        show_package(&sent);
-        place(&sent, a);
+    if sent.fits(addresses.next) {
+        place(rt, &sent, addresses);
     }
 }
 
-fn place(sent: &Package, a: Addresses)
-    requires { fits sent.now.bytes.now a.next ≡ true }
+fn place(rt: &HostRuntime, sent: &Package, addresses: Addresses)
+    requires { fits sent.now.bytes.now addresses.next ≡ true }
 {
-    let mut area = [0u8; TABLE_BYTES];
+    let (received, computed) = (sent.received_sum(), sent.computed_sum());
+    let _ = print!(rt;
+        " placed {} sums {received} {computed}",
+        sent.payload_bytes()
+    );
+    let mut area = [0u8; STAGING_BYTES];
     fill(&mut area, 5);
-    let mut after = a;
+    let mut after = addresses;
     after.place(&mut area, sent);
-    output::labelled(b" next ", after.next);
-    output::labelled(b" reach ", after.reach);
-    output::labelled(b" staging ", output::digest(&area));
-}
-
-fn show_package(sent: &Package) {
-    output::labelled(b" placed ", sent.payload_bytes());
-    output::labelled(b" sums ", u32::from(sent.received_sum()));
-    output::labelled(b" ", u32::from(sent.computed_sum()));
+    let _ = print!(rt;
+        " next {} reach {} staging {}",
+        after.next,
+        after.reach,
+        digest(&area)
+    );
 }
 
 // 8: the address in three bytes, how to pack, and the reach in three bytes. Prints whether the load is lawful, and
 // then digests of the tables before and after it, and its first word.
-fn load_case(body: &[u8]) {
+#[tactic(auto, using(load::proofs::LoadLaws::lawful_start))]
+fn load_case(rt: &HostRuntime, body: &[u8]) {
     if body.len() < 7 {
         return;
     }
-    run(u24_at(body, 0), body[3], u24_at(body, 4));
-}
-
-fn run(a: u32, y: u8, reach: u32) {
-    let mut lookup = [0u8; TABLE_BYTES];
-    fill(&mut lookup, 11);
-    let before = output::digest(&lookup);
-    if load_into(&mut lookup, a, y, reach) {
-        output::labelled(b"load lawful ", before);
-        output::labelled(b" ", output::digest(&lookup));
-        first_word(&lookup, a as usize);
-    } else {
-        output::text(b"load unlawful");
-    }
-}
-
-// Whether the load is lawful; if it is, it is run.
-fn load_into(lookup: &mut [u8], a: u32, y: u8, reach: u32) -> bool
-    requires { length lookup.old ≡ table_bytes }
-{
+    let (a, y, reach) = (u24_at(body, 0), body[3], u24_at(body, 4));
     if !load::words::load_lawful(a, y, reach) {
-        return false;
-    }
-    let mut area = [0u8; TABLE_BYTES];
-    fill(&mut area, 5);
-    load::run::run_load(lookup, &area, a, y, reach);
-    true
-}
-
-// The word at an address of the tables.
-fn first_word(lookup: &[u8], a: usize)
-    requires { length lookup.now ≡ table_bytes }
-{
-    output::text(b" first ");
-    if tables::FIRST <= a {
-        if a < tables::END {
-            output::word(tables::word(lookup, a));
-        }
-    }
-}
-
-pub fn case(bytes: &[u8]) {
-    if bytes.len() < 1 {
+        let _ = print!(rt; "load unlawful");
         return;
     }
-    let body = &bytes[1..];
-    match bytes[0] {
-        1 => line_case(body),
-        2 => accepted_case(body),
-        3 => refused_case(body),
-        4 => prompt_case(),
-        5 => right_case(body),
-        6 => sum_case(body),
-        7 => package_case(body),
-        8 => load_case(body),
-        _ => output::text(b"no case"),
+    let mut lookup = [0u8; TABLE_BYTES];
+    fill(&mut lookup, 11);
+    let before = digest(&lookup);
+    let mut area = [0u8; STAGING_BYTES];
+    fill(&mut area, 5);
+    load::run::run_load(&mut lookup, &area, a, y, reach);
+    let first = tables::word(&lookup, a as usize);
+    let _ = print!(rt;
+        "load lawful {before} {} first {first:06x}",
+        digest(&lookup)
+    );
+}
+
+pub fn case(rt: &HostRuntime, bytes: &[u8]) {
+    let Some((kind, body)) = bytes.split_first() else {
+        return;
+    };
+    match *kind {
+        1 => line_case(rt, body),
+        2..=6 => echo_case(rt, *kind, body),
+        7 => package_case(rt, body),
+        8 => load_case(rt, body),
+        _ => {
+            let _ = print!(rt; "no case");
+        }
     }
-    output::text(b"\n");
+    let _ = println!(rt; "");
 }

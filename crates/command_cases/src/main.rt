@@ -5,8 +5,9 @@ mod cases;
 mod input;
 mod output;
 
-fn main() {
+// By `io`, and not as the programs read: no test takes it from the code that it tests.
+fn main(rt: HostRuntime) {
     let mut text = io::large_buffer();
     let n = io::read_full(0, &mut text);
-    input::run(&text[..n]);
+    input::run(&rt, &text[..n]);
 }

@@ -1,16 +1,11 @@
 -- The limits of the command list as facts, and what keeps them: a command that joins, one that is only counted, another reach. Assumes nothing.
-use mathlib.Core.Path.{◌≡◌, refl, sym, ap, ◌∙◌}
-use mathlib.Core.Bool.{Bool, true, false, ◌&&◌, not, cond, false≢true}
+use Rattle.std.proofs.Common.{◌≡◌, refl, sym, ap, ◌∙◌, Bool, true, false, ◌&&◌, not, cond, List, [], ◌∷◌, ◌++◌, append-nil, ℕ, ◌+◌}
+use Rattle.std.proofs.Common.{◌-◌, ◌≤◌, ◌<◌, arith, add-one, leb-true, leb-false, le-leb, leb, length, replicate}
+use Rattle.std.proofs.Common.{length-append, take_at, take-suc-set, Option, Some, None}
+use Rattle.std.proofs.Math.Bool.{false≢true}
+use borrow.Author.Tests.{not-true}
 use Rattle.std.specs.List.{count_by}
 use Rattle.std.proofs.lemmas.List.Recursion.{is_count_by}
-use mathlib.Core.List.{List, [], ◌∷◌, ◌++◌, append-nil}
-use Prim.Native.Nat.{ℕ, ◌+◌, ◌-◌, ◌≤◌, ◌<◌}
-use native.Mathlib.Omega.{arith}
-use native.Mathlib.Numerals.{add-one}
-use borrow.Author.Tests.{leb-true, leb-false, le-leb, not-true}
-use lib.Dec.{leb}
-use lib.ListN.{length, take, replicate, length-append}
-use lib.Seq.{take_at, take_all, take-suc-set}
 use Rattle.wire.specs.Lists.{all, join_if, keep}
 use Rattle.wire.proofs.Lists.{and_split, all_append, keep_append, keep_one}
 use Rattle.wire.proofs.Pieces.{filled_set}
@@ -19,7 +14,6 @@ use Rattle.command.specs.declared.command.Command.TheVariants.{Set, Load}
 use Rattle.command.specs.declared.command.Setting.{Setting}
 use Rattle.command.specs.declared.command.Setting.TheVariants.{Limhi, Eonly, Toferror, Junk, Hv, Hvstep}
 use Rattle.command.specs.declared.ranges.Ranges.{Ranges}
-use Rattle.std.specs.Prelude.{Option, Some, None}
 use Rattle.command.specs.Asked.{is_load}
 use Rattle.command.specs.Grammar.{most_of, command_ok}
 use Rattle.command_list.specs.declared.CommandList.{CommandList}
@@ -77,10 +71,6 @@ module _ (limhi r q : ℕ) where
           → all (given_at (ranges_at limhi r)) (w ∷ ws) ≡ all (given_at (ranges_at limhi q)) (w ∷ ws)
       go true e k ih = absurd (omega arith)
       go false e k ih = λ i. other_reach w.command e i && ih k i
-
--- no more than there are, where more are asked for
-pub take_more : (n m : ℕ) (ws : List Waiting) → length ws ≡ n → n ≤ m → take n ws ≡ take m ws
-take_more n m ws e h = take_all n ws (omega arith) ∙ sym (take_all m ws (omega arith))
 
 -- ---- the limits as facts, and back
 

@@ -1,12 +1,6 @@
 -- The waiting commands one after the other: what they make of settings, tables and staging addresses stays in its limits. Assumes nothing.
-use mathlib.Core.Path.{◌≡◌, refl, sym, ap, ◌∙◌}
-use mathlib.Core.Bool.{Bool, true, false, cond}
-use mathlib.Core.List.{List, [], ◌∷◌}
-use Prim.Native.Nat.{ℕ, suc, ◌+◌, ◌≤◌, ◌<◌}
-use native.Mathlib.Numerals.{add-one}
-use lib.Dec.{leb}
-use lib.ListN.{length, drop, get_or, drop_of_length-le}
-use lib.Seq.{drop-cons}
+use Rattle.std.proofs.Common.{◌≡◌, refl, sym, ap, ◌∙◌, Bool, true, false, cond, List, [], ◌∷◌, ℕ, suc, ◌+◌, ◌≤◌, ◌<◌, add-one, leb}
+use Rattle.std.proofs.Common.{length, drop, get_or, drop_of_length-le, drop-cons}
 use Rattle.wire.specs.Lists.{all}
 use Rattle.wire.proofs.Lists.{and_left, and_right}
 use Rattle.settings.specs.declared.Settings.{Settings}

@@ -4,8 +4,6 @@
 
 ghost use Rattle.std.specs.Prelude.{◌≡◌, true, ◌≤◌, ◌<◌, length, count_by};
 ghost use Rattle.std.specs.List.{list_all};
-ghost use Rattle.tables.specs.Tables.{table_bytes};
-ghost use Rattle.load.specs.Staging.{staging_bytes};
 ghost use Rattle.command.specs.Asked.{is_load};
 ghost use Rattle.command.specs.Change.{tables_after};
 ghost use Rattle.command.specs.Grammar.{command_ok};
@@ -15,8 +13,9 @@ ghost use Rattle.command_list.specs.Run.{settings_after_all, tables_after_all, a
 
 use command::command::{Command, Setting};
 use command::ranges::Ranges;
-use load::staging::Addresses;
+use load::staging::{Addresses, Staging};
 use settings::Settings;
+use tables::Tables;
 
 pub const MOST_COMMANDS: usize = 32;
 
@@ -146,9 +145,8 @@ impl CommandList {
     }
 
     // The tables after the waiting commands.
-    pub fn run_loads(&self, tables: &mut [u8], staging: &[u8], ranges: Ranges)
-        requires tables_len { (length tables.old ≡ table_bytes) × (length staging.now ≡ staging_bytes) }
-        requires ranges_value { command_list_within self.now ranges ≡ true }
+    pub fn run_loads(&self, tables: &mut Tables, staging: &Staging, ranges: Ranges)
+        requires { command_list_within self.now ranges ≡ true }
         ensures { tables.new ≡ tables_after_all tables.old staging.now ranges.reach (waiting_of self.now) }
     {
         let waiting = self.in_use();
@@ -159,9 +157,8 @@ impl CommandList {
 }
 
 // What one command makes of the tables: a load packs the reach into them, and no other changes them.
-fn run_command(tables: &mut [u8], staging: &[u8], ranges: Ranges, c: Command)
-    requires tables_len { (length tables.old ≡ table_bytes) × (length staging.now ≡ staging_bytes) }
-    requires ranges_value { command_ok c ranges ≡ true }
+fn run_command(tables: &mut Tables, staging: &Staging, ranges: Ranges, c: Command)
+    requires { command_ok c ranges ≡ true }
     ensures { tables.new ≡ tables_after tables.old staging.now ranges.reach c }
 {
     if let Command::Load(a, y) = c {

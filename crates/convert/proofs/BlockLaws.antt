@@ -1,11 +1,7 @@
 -- Laws of a block that is written packet by packet. Assumes nothing.
-use Prim.Native.Nat.{ℕ, zero, suc, ◌+◌, ◌*◌, ◌≤◌}
-use mathlib.Core.Path.{◌≡◌, refl, sym, ap, ◌∙◌}
-use mathlib.Core.List.{List, ◌++◌, append_assoc}
-use native.Mathlib.Omega.{arith}
-use lib.Dec.{eqb}
-use lib.ListN.{length, take, drop, length-drop}
-use lib.Seq.{take-append-add, drop-append-add, drop-drop, length-take-le}
+use Rattle.std.proofs.Common.{ℕ, zero, suc, ◌+◌, ◌*◌, ◌≤◌, ◌≡◌, refl, sym, ap, ◌∙◌, List, ◌++◌, append_assoc, arith, eqb, length}
+use Rattle.std.proofs.Common.{take, drop, length-drop, drop-drop, length-take-le}
+use Rattle.std.proofs.Math.Seq.{take-append-add, drop-append-add}
 use Rattle.causes.specs.Causes.{carried_out}
 use Rattle.wire.specs.Bytes.{put}
 use Rattle.wire.proofs.Lists.{choice}

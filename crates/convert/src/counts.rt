@@ -1,8 +1,10 @@
 // What became of the packets.
-ghost use Rattle.std.specs.Prelude.{◌≡◌};
+ghost use Rattle.std.specs.Prelude.{◌≡◌, eqb};
+ghost use Rattle.causes.specs.Causes.{cause_number, call_number};
 ghost use Rattle.convert.specs.Block.{none_counted, more, counted_by};
 
-use causes::{CARRIED_OUT, Cause};
+use causes::Cause;
+use converter::Conversion;
 
 #[derive(Clone, Copy, Default)]
 pub struct Counts {
@@ -16,7 +18,7 @@ pub struct Counts {
     pub codes: u64,
 }
 
-// Of no packet.
+// Of no packet. A function beside the derived `default`: its clause is what a caller gets.
 pub fn none() -> Counts
     ensures { result ≡ none_counted }
 {
@@ -30,21 +32,26 @@ fn more(n: u64, passes: bool) -> u64
     n.saturating_add(u64::from(passes))
 }
 
-// One packet more, by the numbers of the reader and of its conversion.
-#[tactic(auto, unfolding(crate::specs::Block::counted_by))]
-pub fn counted(counts: Counts, read: u8, number: u8) -> Counts
-    ensures { result ≡ counted_by counts read number }
+// Whether the call was refused for this cause.
+fn refused_for(call: Result<(), Cause>, cause: Cause) -> bool
+    ensures { result ≡ eqb (call_number call) (cause_number cause) }
 {
-    let accepted = read == CARRIED_OUT;
+    call == Err(cause)
+}
+
+// One packet more, by what the reader said of it and what its conversion did.
+#[tactic(auto, unfolding(crate::specs::Block::counted_by))]
+pub fn counted(counts: Counts, told: Conversion) -> Counts
+    ensures { result ≡ counted_by counts (call_number told.read) (call_number told.conversion) }
+{
+    let Conversion { read, conversion } = told;
+    let not_converted = refused_for(conversion, Cause::BodyFault);
     Counts {
-        converted: more(counts.converted, number == CARRIED_OUT),
-        passed: more(
-            counts.passed,
-            accepted & (number == Cause::BodyFault.number()),
-        ),
-        headers: more(counts.headers, read == Cause::NoHeader.number()),
-        sums: more(counts.sums, read == Cause::PacketSum.number()),
-        bodies: more(counts.bodies, read == Cause::BodyFault.number()),
-        codes: more(counts.codes, number == Cause::NoFirstCode.number()),
+        converted: more(counts.converted, conversion.is_ok()),
+        passed: more(counts.passed, read.is_ok() & not_converted),
+        headers: more(counts.headers, refused_for(read, Cause::NoHeader)),
+        sums: more(counts.sums, refused_for(read, Cause::PacketSum)),
+        bodies: more(counts.bodies, refused_for(read, Cause::BodyFault)),
+        codes: more(counts.codes, refused_for(conversion, Cause::NoFirstCode)),
     }
 }

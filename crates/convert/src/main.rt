@@ -11,7 +11,7 @@ mod report;
 use buffered::input::read_full;
 use buffered::text::print;
 use packet::layout::PACKET_BYTES;
-use rate_code::editions::{CONVERTED_MARK, FIRST_MARK};
+use rate_code::editions::Mark;
 use std::env::{Env, FillError};
 
 // So many packets are read and written at a time.
@@ -36,7 +36,7 @@ fn asked_for(rt: &HostRuntime, word: &[u8]) -> bool {
 
 // Converts block after block until the input ends, or a read or a write fails. Nothing says that the input ends, so the
 // turns are counted, up to a number that no run uses up.
-fn run(rt: &HostRuntime, wanted: u8, block: &mut [u8], out: &mut [u8])
+fn run(rt: &HostRuntime, wanted: Mark, block: &mut [u8], out: &mut [u8])
     requires { length block.old ≡ length out.old }
 {
     let mut counts = counts::none();
@@ -61,9 +61,9 @@ fn main(rt: HostRuntime) {
     let mut block = [0u8; BLOCK_BYTES];
     let mut out = [0u8; BLOCK_BYTES];
     if asked_for(&rt, b"second") {
-        run(&rt, CONVERTED_MARK, &mut block, &mut out);
+        run(&rt, Mark::Converted, &mut block, &mut out);
     } else if asked_for(&rt, b"first") {
-        run(&rt, FIRST_MARK, &mut block, &mut out);
+        run(&rt, Mark::First, &mut block, &mut out);
     } else {
         report::usage(&rt);
     }

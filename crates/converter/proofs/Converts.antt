@@ -1,26 +1,23 @@
 -- The number of a conversion, and what the two calls do one after the other. Assumes nothing.
-use Rattle.std.specs.Prelude.{Option, Some, None}
-use mathlib.Core.Path.{◌≡◌, refl, sym, ap, ◌∙◌}
-use mathlib.Core.Bool.{Bool, true, false, not, cond, false≢true}
-use mathlib.Core.List.{List, [], ◌∷◌, ◌++◌}
-use Prim.Native.Nat.{ℕ, ◌+◌, ◌*◌, ◌≤◌}
-use native.Mathlib.Omega.{arith}
-use lib.Dec.{eqb}
-use lib.ListN.{length, take, set}
-use borrow.Author.Tests.{eqb-false, eq-eqb, ne_eqb, eqb-true, not-true}
+use Rattle.std.proofs.Common.{Option, Some, None, ◌≡◌, refl, sym, ap, ◌∙◌, Bool, true, false, not, cond, List, [], ◌∷◌, ◌++◌, ℕ}
+use Rattle.std.proofs.Common.{◌+◌, ◌*◌, ◌≤◌, arith, eqb, length, take, set, eq-eqb, ne_eqb, eqb-true}
+use Rattle.std.proofs.Math.Bool.{false≢true}
+use borrow.Author.Tests.{eqb-false, not-true}
 use Rattle.causes.specs.Causes.{carried_out, buffer_or_state, body_fault, no_first_code}
 use Rattle.causes.specs.Checks.{Check, number_by, Passed}
 use Rattle.causes.proofs.CheckLaws.{all_passed, passed_first, number_before, number_behind}
 use Rattle.wire.specs.Lists.{EachBelow}
+use Rattle.wire.specs.Pieces.{each}
 use Rattle.wire.proofs.Lists.{decide, and_left, and_right}
 use Rattle.wire.proofs.Pieces.{each_at, each_all, each_start}
-use Rattle.rate_code.specs.Editions.{first_mark, converted_mark, is_first, exact_by}
-use Rattle.rate_code.proofs.EditionLaws.{own_exact, second_exact}
+use Rattle.rate_code.specs.declared.editions.Edition.{Edition}
+use Rattle.rate_code.specs.Editions.{first_mark, converted_mark, is_first, edition_of, mark_in, code_of, least_of, exact_by}
+use Rattle.rate_code.proofs.EditionLaws.{own_exact, second_exact, edition_again}
 use Rattle.packet.specs.Layout.{packet_bytes, body_at, frame_at, mark_at, sum_at, code_bytes}
 use Rattle.packet.specs.Packet.{summed}
 use Rattle.decode.specs.declared.kind.Kind.{Kind}
 use Rattle.decode.specs.declared.kind.Kind.TheVariants.{Rate, Sample, Beacon}
-use Rattle.decode.specs.Read.{application_of, kind_of, mark_of, code_at, codes_good, body_good, read_checks, read_number}
+use Rattle.decode.specs.Read.{application_of, kind_of, mark_of, code_at, rate_at, codes_good, body_good, read_checks, read_number}
 use Rattle.decode.proofs.Reading.{passed, accepted_is, accepted_length, accepted_body, accepted_rate, accepted_beacon}
 use Rattle.decode.proofs.Reading.{rate_accepted, beacon_accepted, rate_codes, beacon_codes}
 use Rattle.ground.specs.Ground.{contents, read_of}
@@ -141,6 +138,16 @@ pub exact_there : (wanted n : ℕ) (xs : List ℕ) → is_first wanted ≡ false
     → rates_exact wanted n xs ≡ true
 unfolding rates_exact codes_good
 exact_there wanted n xs f m g = each_all _ n (λ i h. second_exact wanted (mark_of xs) (code_at xs i) f m (each_at _ n i h g))
+
+-- an edition's own mark says the same of a packet as any other of its marks
+pub same_convertible : (wanted : ℕ) (xs : List ℕ) → convertible (mark_in (edition_of wanted)) xs ≡ convertible wanted xs
+unfolding convertible
+same_convertible wanted xs = decide (is_first wanted) (λ t. rw t refl) (λ f. rw f refl)
+
+pub same_exact : (wanted n : ℕ) (xs : List ℕ) → rates_exact (mark_in (edition_of wanted)) n xs ≡ rates_exact wanted n xs
+unfolding rates_exact
+same_exact wanted n xs =
+    ap (λ (e : Edition). each n (λ i. eqb (least_of e (code_of e (rate_at xs i))) (rate_at xs i))) (edition_again (edition_of wanted))
 
 -- ---- the converted packet
 

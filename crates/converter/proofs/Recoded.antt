@@ -1,23 +1,19 @@
 -- Which bytes a packet has after converting, and that twice gives the packet with its mark changed. Assumes nothing.
-use Rattle.std.specs.Prelude.{Option, Some, None}
-use mathlib.Core.Path.{◌≡◌, refl, sym, ap, ◌∙◌}
-use mathlib.Core.Logic.{◌⊎◌, inl, inr}
-use mathlib.Core.Bool.{true}
-use mathlib.Core.List.{List, ◌++◌}
-use Prim.Native.Nat.{ℕ, zero, suc, ◌+◌, ◌-◌, ◌*◌, ◌/◌, ◌%◌, ◌≤◌, ◌<◌}
-use native.Mathlib.Omega.{arith}
-use native.Mathlib.Nat.{mul-le-mul_left}
-use lib.ListN.{length, take, get_or, set, length-set, length-append}
-use lib.Dec.{eqb, ltb}
-use lib.Seq.{get_or-take, get_or-set_same, get_or-set_other, set-get_or, ext_get_or, take-suc, take_all, length-take-le}
-use borrow.Author.Tests.{eqb-true, eqb-false, ltb-true, ltb-false}
+use Rattle.std.proofs.Common.{Option, Some, None, ◌≡◌, refl, sym, ap, ◌∙◌, ◌⊎◌, inl, inr, true, List, ◌++◌, ℕ, zero, suc, ◌+◌, ◌-◌}
+use Rattle.std.proofs.Common.{◌*◌, ◌/◌, ◌%◌, ◌≤◌, ◌<◌, arith, mul-le-mul_left, length, take, get_or, set, length-set, length-append}
+use Rattle.std.proofs.Common.{eqb, ltb, get_or-take, get_or-set_same, get_or-set_other, ext_get_or, take-suc, take_all}
+use Rattle.std.proofs.Common.{length-take-le, eqb-true, ltb-true, ltb-false}
+use Rattle.std.proofs.Math.Seq.{set-get_or}
+use borrow.Author.Tests.{eqb-false}
 use Rattle.wire.specs.Bytes.{put, one, be16, at16, total}
 use Rattle.wire.specs.Lists.{EachBelow}
+use Rattle.wire.specs.Pieces.{runs}
 use Rattle.wire.proofs.Bytes.{length_put, put_inside, put_before, put_behind, value16}
 use Rattle.wire.proofs.Lists.{decide}
 use Rattle.wire.proofs.Pieces.{runs_at, length_table, table_at, each_at, each_all, same_table}
-use Rattle.rate_code.specs.Editions.{is_first, code_by, least_by, valid_by}
-use Rattle.rate_code.proofs.EditionLaws.{by_valid, by_below, by_valid_again, same_code}
+use Rattle.rate_code.specs.declared.editions.Edition.{Edition}
+use Rattle.rate_code.specs.Editions.{is_first, edition_of, mark_in, code_of, code_by, least_by, valid_by}
+use Rattle.rate_code.proofs.EditionLaws.{edition_again, by_valid, by_below, by_valid_again, same_code}
 use Rattle.packet.specs.Layout.{packet_bytes, body_at, frame_at, mark_at, sum_at, code_bytes}
 use Rattle.packet.specs.Packet.{summed, codes}
 use Rattle.packet.proofs.Written.{length_codes}
@@ -43,6 +39,12 @@ length_rates n xs = length_table _ n
 -- the codes of n rates in bytes
 pub length_new : (wanted n : ℕ) (xs : List ℕ) → length (codes wanted (rates_of n xs)) ≡ code_bytes * n
 length_new wanted n xs = length_codes wanted (rates_of n xs) ∙ ap (λ (k : ℕ). code_bytes * k) (length_rates n xs)
+
+-- an edition's own mark gives the codes of any other of its marks
+pub same_codes : (wanted n : ℕ) (xs : List ℕ) → codes (mark_in (edition_of wanted)) (rates_of n xs) ≡ codes wanted (rates_of n xs)
+unfolding codes
+same_codes wanted n xs =
+    ap (λ (e : Edition). runs (λ m. be16 (code_of e m)) (rates_of n xs)) (edition_again (edition_of wanted))
 
 -- ---- one conversion, of n rates that stand before the frame
 

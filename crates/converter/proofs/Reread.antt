@@ -1,14 +1,6 @@
 -- A converted packet is read as the packet was, but for the mark. Assumes nothing.
-use Rattle.std.specs.Prelude.{Option, Some}
-use mathlib.Core.Path.{◌≡◌, sym, ap, ◌∙◌}
-use mathlib.Core.Logic.{inl, inr}
-use mathlib.Core.Bool.{true, ◌&&◌}
-use mathlib.Core.List.{List}
-use Prim.Native.Nat.{ℕ, ◌+◌, ◌*◌, ◌/◌, ◌%◌, ◌≤◌, ◌<◌}
-use native.Mathlib.Omega.{arith}
-use lib.Dec.{leb, eqb}
-use lib.ListN.{length, get_or}
-use borrow.Author.Tests.{le-leb}
+use Rattle.std.proofs.Common.{Option, Some, ◌≡◌, sym, ap, ◌∙◌, inl, inr, true, ◌&&◌, List, ℕ, ◌+◌, ◌*◌, ◌/◌, ◌%◌, ◌≤◌, ◌<◌, arith}
+use Rattle.std.proofs.Common.{leb, eqb, length, get_or, le-leb}
 use Rattle.causes.specs.Causes.{carried_out}
 use Rattle.wire.specs.Bits.{is_set}
 use Rattle.wire.specs.Bytes.{at16, zeros}

@@ -1,14 +1,7 @@
 -- When a packet is converted, and with which number it is refused otherwise, by what the reader says of it. Assumes nothing.
-use Rattle.std.specs.Prelude.{Option, Some}
-use mathlib.Core.Path.{◌≡◌, refl, sym, ap, subst, ◌∙◌}
-use mathlib.Core.Logic.{⊎_elim}
-use mathlib.Core.Bool.{Bool, true, false, not, cond, false≢true}
-use mathlib.Core.List.{List}
-use Prim.Native.Nat.{ℕ, ◌<◌}
-use native.Mathlib.Omega.{arith}
-use lib.Dec.{eqb}
-use lib.ListN.{length, get_or}
-use borrow.Author.Tests.{eq-eqb, ne_eqb, eqb-true}
+use Rattle.std.proofs.Common.{Option, Some, ◌≡◌, refl, sym, ap, subst, ◌∙◌, ⊎_elim, Bool, true, false, not, cond, List, ℕ, ◌<◌}
+use Rattle.std.proofs.Common.{arith, eqb, length, get_or, eq-eqb, ne_eqb, eqb-true}
+use Rattle.std.proofs.Math.Bool.{false≢true}
 use Rattle.causes.specs.Causes.{carried_out}
 use Rattle.causes.proofs.CheckLaws.{lowest}
 use Rattle.wire.proofs.Lists.{decide}

@@ -1,7 +1,7 @@
 // The rates of a packet: whether each has a code in the other edition, and writing them in it.
 ghost use Rattle.std.specs.Prelude.{◌≡◌, true, ◌+◌, ◌*◌, ◌≤◌, ◌<◌, length};
 ghost use Rattle.rate_code.specs.Rate.{count_limit};
-ghost use Rattle.rate_code.specs.Editions.{first_mark};
+ghost use Rattle.rate_code.specs.Editions.{first_mark, mark_in};
 ghost use Rattle.wire.specs.Bytes.{put};
 ghost use Rattle.packet.specs.Layout.{packet_bytes, body_at, frame_at, code_bytes};
 ghost use Rattle.packet.specs.Packet.{codes};
@@ -12,8 +12,7 @@ use packet::envelope::write_sum;
 use packet::layout;
 use packet::layout::PACKET_BYTES;
 use rate_code::code::exact;
-use rate_code::editions;
-use rate_code::editions::FIRST_MARK;
+use rate_code::editions::Edition;
 use rate_code::first::First;
 use wire::number::BigEndian;
 
@@ -34,10 +33,10 @@ impl Rates<'_> {
     {
         let packet = self.packet;
         let code = u16::read(packet, layout::BODY_AT + layout::CODE_BYTES * i);
-        editions::least_count(packet[layout::MARK_AT], code)
+        Edition::from(packet[layout::MARK_AT]).least_count(code)
     }
 
-    // Whether each is the least count of a first-edition code.
+    // Whether each is the least count of a first-edition code. A loop, since by `all` the proof didn't close.
     fn exact(&self) -> bool
         ensures { result ≡ rates_exact first_mark self.now.n self.now.packet.now }
     {
@@ -49,30 +48,30 @@ impl Rates<'_> {
     }
 
     // Whether each has a code in the edition wanted. The second has one for every rate of the first.
-    pub fn keeps(&self, wanted: u8) -> bool
-        requires { convertible wanted self.now.packet.now ≡ true }
-        ensures { result ≡ rates_exact wanted self.now.n self.now.packet.now }
+    pub fn keeps(&self, wanted: Edition) -> bool
+        requires { convertible (mark_in wanted) self.now.packet.now ≡ true }
+        ensures { result ≡ rates_exact (mark_in wanted) self.now.n self.now.packet.now }
     {
-        if wanted == FIRST_MARK {
-            self.exact()
-        } else {
-            true
+        match wanted {
+            Edition::First => self.exact(),
+            Edition::Second => true,
         }
     }
 
-    // Writes them to their place, in the edition wanted. `out` is a slice, as `write_sum` takes one.
-    fn write(&self, wanted: u8, out: &mut [u8])
+    // Writes them to their place, in the edition wanted. `out` is a slice, as `write_sum` takes one, and the loop goes by the place
+    // for which `rate` is asked.
+    fn write(&self, wanted: Edition, out: &mut [u8])
         requires { length out.old ≡ packet_bytes }
-        ensures { out.new ≡ put out.old body_at (codes wanted (rates_of self.now.n self.now.packet.now)) }
+        ensures { out.new ≡ put out.old body_at (codes (mark_in wanted) (rates_of self.now.n self.now.packet.now)) }
     {
         for i in 0..self.n {
-            let code = editions::encode(wanted, self.rate(i));
+            let code = wanted.encode(self.rate(i));
             code.put(out, layout::BODY_AT + layout::CODE_BYTES * i);
         }
     }
 
-    // Writes the packet in the edition wanted.
-    #[tactic(auto, unfolding(crate::specs::Convert::recoded))]
+    // Writes the packet in the edition of the mark wanted, which may be any byte.
+    #[tactic(auto, using(crate::proofs::Recoded::same_codes), unfolding(crate::specs::Convert::recoded))]
     pub fn recode(&self, wanted: u8, out: &mut [u8])
         requires { length out.old ≡ packet_bytes }
         ensures { out.new ≡ recoded wanted self.now.n self.now.packet.now }
@@ -80,7 +79,7 @@ impl Rates<'_> {
         let packet = self.packet;
         out.copy_from_slice(packet);
         out[layout::MARK_AT] = wanted;
-        self.write(wanted, out);
+        self.write(Edition::from(wanted), out);
         write_sum(out);
     }
 }

@@ -1,9 +1,5 @@
 -- One more in a box keeps the boxes bounded, and the steps of an event in a cell are its boxes and beacon. Assumes nothing.
-use mathlib.Core.Path.{◌≡◌, refl}
-use mathlib.Core.Bool.{Bool}
-use Rattle.std.specs.Prelude.{Option, Some, None}
-use mathlib.Core.List.{[], ◌∷◌}
-use Prim.Native.Nat.{ℕ, ◌+◌, ◌-◌}
+use Rattle.std.proofs.Common.{◌≡◌, refl, Bool, Option, Some, None, [], ◌∷◌, ℕ, ◌+◌, ◌-◌}
 use Rattle.std.specs.Option.{option_to_list}
 use Rattle.wire.specs.Lists.{EachBelow}
 use Rattle.wire.proofs.Lists.{each_bump}

@@ -11,7 +11,7 @@ use boxes::{BEACONS, BOXES, DISCARDED_BOX, OUT_OF_BOUNDS_BOX};
 use sort::sorting::Outcome;
 
 // Box b is counted at index b - 1, and beacon n at index n - 1.
-#[derive(Clone, Copy)]
+#[derive(Clone, Copy, Default)]
 pub struct Counts {
     pub boxes: [u32; BOXES],
     pub beacons: [u32; BEACONS],

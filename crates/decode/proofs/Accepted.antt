@@ -1,12 +1,7 @@
 -- A reader accepts every packet that a writer writes, and finds in it what went in, by kind. Assumes nothing.
-use Rattle.std.specs.Prelude.{Option, Some}
-use mathlib.Core.Path.{◌≡◌, refl, sym, ap, ◌∙◌}
-use mathlib.Core.Bool.{true}
-use mathlib.Core.List.{List, ◌++◌, map}
-use Prim.Native.Nat.{ℕ, ◌+◌, ◌*◌, ◌/◌, ◌%◌, ◌≤◌, ◌<◌}
-use native.Mathlib.Omega.{arith}
-use lib.ListN.{length, get_or, length-append, length-map, get_or-replicate}
-use borrow.Author.Tests.{eq-eqb, ne_eqb, le-leb}
+use Rattle.std.specs.Prelude.{Option, Some, ◌≡◌, refl, true, List, ◌++◌, map, ℕ, ◌+◌, ◌*◌, ◌/◌, ◌%◌, ◌≤◌, ◌<◌, length, get_or}
+use Rattle.std.proofs.Common.{sym, ap, ◌∙◌, arith, length-append, eq-eqb, ne_eqb, le-leb}
+use Rattle.std.proofs.Math.ListN.{length-map, get_or-replicate}
 use Rattle.wire.specs.Bits.{bit_of}
 use Rattle.wire.specs.Bytes.{at16, words, zeros}
 use Rattle.wire.specs.Lists.{EachBelow}

@@ -1,13 +1,10 @@
 -- What a reader finds in a packet that was written: header, sum, the body's bytes and those behind them. Assumes nothing.
-use mathlib.Core.Path.{◌≡◌, refl, sym, ap, ◌∙◌}
-use mathlib.Core.Bool.{Bool, true, ◌&&◌}
-use mathlib.Core.List.{List, [], ◌++◌, append_assoc, append-nil}
-use Prim.Native.Nat.{ℕ, suc, ◌+◌, ◌*◌, ◌/◌, ◌%◌, ◌≤◌, ◌<◌}
-use native.Mathlib.Omega.{arith}
-use native.Mathlib.Nat.{mul-le-mul_left}
-use lib.ListN.{length, take, drop, get_or, length-append, get_or-append}
-use lib.Seq.{take_at, drop_at, get_or_at, get_or-append-add}
-use borrow.Author.Tests.{eq-eqb}
+use Rattle.std.specs.Prelude.{◌≡◌, refl, Bool, true, ◌&&◌, List, [], ◌++◌, ℕ, suc, ◌+◌, ◌*◌, ◌/◌, ◌%◌, ◌≤◌, ◌<◌, length, take, drop}
+use Rattle.std.specs.Prelude.{get_or}
+use Rattle.std.proofs.Common.{sym, ap, ◌∙◌, append_assoc, append-nil, arith, mul-le-mul_left, length-append, take_at, drop_at}
+use Rattle.std.proofs.Common.{get_or-append-add, eq-eqb}
+use Rattle.std.proofs.Math.ListN.{get_or-append}
+use Rattle.std.proofs.Math.Seq.{get_or_at}
 use Rattle.wire.specs.Bytes.{one, be16, be32, at16, words, total}
 use Rattle.wire.specs.Pieces.{runs}
 use Rattle.wire.proofs.Bytes.{value16, value32}

@@ -1,14 +1,10 @@
 -- A packet of bytes with a right sum has a wrong one when one byte is another, and then gets 11 or 12. Assumes nothing.
-use mathlib.Core.Path.{◌≡◌, refl, sym, ap, ◌∙◌}
-use mathlib.Core.Logic.{◌⊎◌, inl, inr, ⊎_elim, ⊎_map}
-use mathlib.Core.Bool.{true, false}
-use mathlib.Core.List.{List, [], ◌∷◌, ◌++◌}
-use Prim.Native.Nat.{ℕ, zero, suc, ◌+◌, ◌%◌, ◌≤◌, ◌<◌}
-use native.Mathlib.Omega.{arith}
-use native.Mathlib.Nat.{eq-or-lt_of_le}
-use lib.ListN.{length, take, get_or, set}
-use lib.Seq.{take-set-lt, take-set-le, get_or-set_same, get_or-set_other, get_or-take, length-take-le}
-use borrow.Author.Tests.{eqb-true, ne_eqb}
+use Rattle.std.specs.Prelude.{◌≡◌, refl, ◌⊎◌, true, false, List, [], ◌∷◌, ◌++◌, ℕ, zero, suc, ◌+◌, ◌%◌, ◌≤◌, ◌<◌, length, take}
+use Rattle.std.specs.Prelude.{get_or, set}
+use Rattle.std.proofs.Common.{sym, ap, ◌∙◌, inl, inr, ⊎_elim, arith, eq-or-lt_of_le, get_or-set_same, get_or-set_other, get_or-take}
+use Rattle.std.proofs.Common.{length-take-le, eqb-true, ne_eqb}
+use Rattle.std.proofs.Math.Logic.{⊎_map}
+use Rattle.std.proofs.Math.Seq.{take-set-lt, take-set-le}
 use Rattle.causes.specs.Causes.{no_header, packet_sum}
 use Rattle.causes.specs.Checks.{itself}
 use Rattle.causes.proofs.CheckLaws.{number_lowest}

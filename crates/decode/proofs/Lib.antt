@@ -1,3 +1,4 @@
+pub mod Chunks
 pub mod Reading
 pub mod Back
 pub mod Accepted

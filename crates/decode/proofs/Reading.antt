@@ -1,12 +1,7 @@
 -- A packet is accepted exactly where it passes every test, and then has 272 bytes and the codes of its kind. Assumes nothing.
-use Rattle.std.specs.Prelude.{Option, Some}
-use mathlib.Core.Path.{◌≡◌, refl, sym, ap, ◌∙◌}
-use mathlib.Core.Bool.{true, ◌&&◌}
-use mathlib.Core.List.{List}
-use Prim.Native.Nat.{ℕ, ◌%◌}
-use lib.Dec.{leb, eqb}
-use lib.ListN.{length, get_or}
-use borrow.Author.Tests.{eqb-true}
+use Rattle.std.specs.Prelude.{Option, Some, None, ◌≡◌, refl, Bool, true, false, ◌&&◌, cond, List, ℕ, ◌%◌, leb, eqb, length, get_or}
+use Rattle.std.proofs.Common.{sym, ap, ◌∙◌, eqb-true, eq-eqb}
+use Rattle.std.proofs.Math.Bool.{false≢true}
 use Rattle.causes.specs.Checks.{Passed}
 use Rattle.causes.proofs.CheckLaws.{all_passed}
 use Rattle.wire.specs.Bytes.{at16}
@@ -16,7 +11,7 @@ use Rattle.packet.specs.Layout.{packet_bytes, rate_count, gap_at, limhi_at, junk
 use Rattle.decode.specs.declared.kind.Kind.{Kind}
 use Rattle.decode.specs.declared.kind.Kind.TheVariants.{Rate, Beacon}
 use Rattle.decode.specs.Limits.{largest_limhi}
-use Rattle.decode.specs.Read.{application_of, kind_of, flag_byte, header_good, sum_good, codes_good, zeros_good, end_good}
+use Rattle.decode.specs.Read.{application_of, kind_of, is_kind, flag_byte, fields_good, header_good, sum_good, codes_good, zeros_good, end_good}
 use Rattle.decode.specs.Read.{rate_good, beacon_good, body_good}
 use Rattle.decode.specs.Read.{read_checks, read_number}
 
@@ -29,6 +24,18 @@ pub accepted_is : (xs : List ℕ) → header_good xs ≡ true → sum_good xs �
     → read_number xs ≡ 0
 unfolding read_number
 accepted_is xs h s b = rw (h, s, b)
+
+-- the kind that the header names, where it is that of one
+header_by : (b : Bool) (named : Option Kind) (k : Kind) → cond b named None ≡ Some k → (b ≡ true) × (named ≡ Some k)
+header_by true named k e = (refl, e)
+header_by false named k e = absurd (false≢true (ap is_kind e))
+
+pub taken_by : (xs : List ℕ) (k : Kind) → length xs ≡ packet_bytes → cond (fields_good xs) (kind_of (application_of xs)) None ≡ Some k
+    → sum_good xs ≡ true → body_good (Some k) xs ≡ true → (read_number xs ≡ 0) × (kind_of (application_of xs) ≡ Some k)
+unfolding header_good
+taken_by xs k l e s b =
+    let h = header_by (fields_good xs) (kind_of (application_of xs)) k e in
+    (accepted_is xs (rw (eq-eqb _ _ l, h.0, h.1) refl) s (ap (λ (t : Option Kind). body_good t xs) h.1 ∙ b), h.1)
 
 pub passed : (xs : List ℕ) → read_number xs ≡ 0 → Passed (read_checks xs)
 unfolding read_number

@@ -3,18 +3,18 @@
 use Rattle.std.specs.Prelude.{ℕ, ◌+◌, ◌*◌, ◌/◌, ◌%◌, Bool, true, false, cond, ◌&&◌, Option, Some, None, List, [], ◌∷◌, leb, eqb, length, take, get_or}
 use Rattle.causes.specs.Causes.{no_header, packet_sum, body_fault}
 use Rattle.causes.specs.Checks.{Check, number_by}
-use Rattle.wire.specs.Bits.{is_set}
 use Rattle.wire.specs.Bytes.{at16, at24, at32, total}
 use Rattle.wire.specs.Pieces.{table, each}
 use Rattle.boxes.specs.Boxes.{beacon_count}
 use Rattle.settings.specs.declared.Settings.{Settings}
+use Rattle.settings.specs.Settings.{settings_by}
 use Rattle.sample_record.specs.Record.{record_good}
 use Rattle.rate_code.specs.Editions.{least_by, valid_by}
 use Rattle.packet.specs.Layout.{application_at, sequence_at, length_at, time_at, zero_at, body_at, sum_at, packet_bytes}
 use Rattle.packet.specs.Layout.{frame_at, mark_at, last_at}
 use Rattle.packet.specs.Layout.{secondary_flag, sequence_flags, sequence_counts, length_field}
 use Rattle.packet.specs.Layout.{code_bytes, record_bytes, rate_count, record_count, beacon_end, beacon_unused}
-use Rattle.packet.specs.Layout.{gap_at, hvstep_at, flags_at, limhi_at, table_sum_at, hv_flag, eonly_flag, toferror_flag, junk_flag}
+use Rattle.packet.specs.Layout.{gap_at, hvstep_at, flags_at, limhi_at, table_sum_at, junk_flag}
 use Rattle.packet.specs.Packet.{rate_application, sample_application, beacon_application, application_of_sample}
 use Rattle.decode.specs.Limits.{last_sample, largest_limhi, last_mark}
 use Rattle.decode.specs.declared.kind.Kind.{Kind}
@@ -73,15 +73,7 @@ flag_byte xs = get_or xs flags_at 0
 
 -- "260 hvstep, 261 hv 128 + Eonly 64 + toferror 32 + junk 16, 262-263 LIMHI"
 unfoldable pub settings_of : List ℕ → Settings
-settings_of xs =
-    record {
-      limhi = at16 xs limhi_at;
-      eonly = is_set (flag_byte xs) eonly_flag;
-      toferror = is_set (flag_byte xs) toferror_flag;
-      junk = is_set (flag_byte xs) junk_flag;
-      hv = is_set (flag_byte xs) hv_flag;
-      hvstep = get_or xs hvstep_at 0;
-    }
+settings_of xs = settings_by (flag_byte xs) (at16 xs limhi_at) (get_or xs hvstep_at 0)
 
 -- "264-266 sum of all table words modulo 2^24"
 abbrev pub sum_of : List ℕ → ℕ

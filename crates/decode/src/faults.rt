@@ -1,6 +1,6 @@
-// The tests of a packet, and the number with which one is refused.
-ghost use Rattle.std.specs.Prelude.{◌≡◌, ◌+◌, ◌*◌, ◌≤◌, length, get_or, cond, true, IfOk};
-ghost use Rattle.causes.specs.Causes.{call_number};
+// The tests of a packet, and why one is refused.
+ghost use Rattle.std.specs.Prelude.{◌≡◌, ◌+◌, ◌*◌, ◌≤◌, length, cond, true, Some, IfOk};
+ghost use Rattle.causes.specs.Causes.{carried_out, call_number};
 ghost use Rattle.wire.specs.Bytes.{at32};
 ghost use Rattle.sample_record.specs.Record.{record_good};
 ghost use Rattle.packet.specs.Layout.{packet_bytes, body_at, code_bytes, record_bytes};
@@ -14,8 +14,8 @@ use boxes::{BEACONS, LAST_BOX, OUT_OF_BOUNDS_BOX};
 use causes::{Cause, check};
 use packet::applications::of_sample;
 use packet::layout;
-use packet::layout::PACKET_BYTES;
-use rate_code::editions;
+use packet::layout::{CODE_BYTES, PACKET_BYTES, RECORD_BYTES};
+use rate_code::editions::Edition;
 use wire::number::BigEndian;
 
 // A record of box 6 whose last byte is read as the highest is at least this, and one of box 116 is below the next.
@@ -56,21 +56,23 @@ pub fn sum_good(packet: &[u8; PACKET_BYTES]) -> bool
     packet[layout::SUM_AT] == (sum % 256) as u8
 }
 
-// Whether the first n codes are ones that counts have, in the edition of the packet's mark.
+// Whether the first n codes are ones that counts have, in the edition of the packet's mark. This loop and the two below are no
+// `all`: one that leaves early is not made of vectors.
 fn codes_good(packet: &[u8; PACKET_BYTES], n: usize) -> bool
     requires { body_at + code_bytes * n ≤ packet_bytes }
     ensures { result ≡ codes_good n packet.now }
 {
-    let mark = packet[layout::MARK_AT];
+    let edition = Edition::from(packet[layout::MARK_AT]);
+    let end = layout::BODY_AT + CODE_BYTES * n;
     let mut good = true;
-    for i in 0..n {
-        let code = u16::read(packet, layout::BODY_AT + layout::CODE_BYTES * i);
-        good = good & editions::valid(mark, code);
+    let (codes, _) = packet[layout::BODY_AT..end].as_chunks::<CODE_BYTES>();
+    for code in codes {
+        good = good & edition.valid(u16::from_be_bytes(*code));
     }
     good
 }
 
-// Whether the n bytes from `at` on are zero.
+// Whether the n bytes from `at` on are zero. A place and a length, and no slice: the definition goes by them, so a slice is no plainer.
 pub fn zeros_good(packet: &[u8], at: usize, n: usize) -> bool
     requires { at + n ≤ length packet.now }
     ensures { result ≡ zeros_good at n packet.now }
@@ -82,38 +84,25 @@ pub fn zeros_good(packet: &[u8], at: usize, n: usize) -> bool
     good
 }
 
-// The number in the four bytes from `at` on, the least first. A function of its own: the compiler makes one load of it.
-// `u32::from_le_bytes` is no plainer: it wants the four bytes as an array first.
-fn mirrored(packet: &[u8], at: usize) -> u32
-    requires { at + 4 ≤ length packet.now }
-    ensures { result
-        ≡ get_or packet.now at 0 + 256 * get_or packet.now (at + 1) 0
-        + 65536 * get_or packet.now (at + 2) 0 + 16777216 * get_or packet.now (at + 3) 0 }
+// Whether the record is empty or of a box that samples have. Box and priority are its last byte: with that byte highest it is
+// compared whole, without a shift.
+fn record_fits(bytes: [u8; RECORD_BYTES]) -> bool
+    ensures { result ≡ record_good (at32 bytes 0) }
 {
-    u32::from(packet[at])
-        + 256 * u32::from(packet[at + 1])
-        + 65536 * u32::from(packet[at + 2])
-        + 16777216 * u32::from(packet[at + 3])
-}
-
-// Whether the record in the four bytes from `at` on is empty or of a box that samples have. Box and priority are its last byte:
-// with that byte highest it is compared whole, without a shift.
-fn record_fits(packet: &[u8], at: usize) -> bool
-    requires { at + 4 ≤ length packet.now }
-    ensures { result ≡ record_good (at32 packet.now at) }
-{
-    let x = mirrored(packet, at);
+    let x = u32::from_le_bytes(bytes);
     (x == 0) | ((LEAST_MIRRORED <= x) & (x < MIRRORED_END))
 }
 
 // Whether each of the first n records is empty or of a box that samples have.
-fn records_good(packet: &[u8], n: usize) -> bool
-    requires { body_at + record_bytes * n ≤ length packet.now }
+fn records_good(packet: &[u8; PACKET_BYTES], n: usize) -> bool
+    requires { body_at + record_bytes * n ≤ packet_bytes }
     ensures { result ≡ records_good n packet.now }
 {
+    let end = layout::BODY_AT + RECORD_BYTES * n;
+    let (records, _) = packet[layout::BODY_AT..end].as_chunks::<RECORD_BYTES>();
     let mut good = true;
-    for i in 0..n {
-        good = good & record_fits(packet, layout::BODY_AT + layout::RECORD_BYTES * i);
+    for bytes in records {
+        good = good & record_fits(*bytes);
     }
     good
 }
@@ -132,7 +121,7 @@ fn rate_good(packet: &[u8; PACKET_BYTES]) -> bool
 {
     codes_good(packet, layout::RATES)
         & (packet[layout::GAP_AT] == 0)
-        & (packet[layout::FLAGS_AT] % layout::JUNK == 0)
+        & (packet[layout::FLAGS_AT] % settings::JUNK_FLAG == 0)
         & (u16::read(packet, layout::LIMHI_AT) <= LARGEST_LIMHI)
         & end_good(packet)
 }
@@ -157,7 +146,7 @@ fn beacon_good(packet: &[u8; PACKET_BYTES]) -> bool
         & end_good(packet)
 }
 
-// The body of a packet of this kind.
+// The body of a packet of this kind: a match and no table of functions, since each kind has a test of its own.
 #[tactic(auto, unfolding(crate::specs::Read::body_good))]
 fn body_good(kind: Kind, packet: &[u8; PACKET_BYTES]) -> bool
     ensures { result ≡ body_good (Some kind) packet.now }
@@ -174,15 +163,16 @@ fn body_good(kind: Kind, packet: &[u8; PACKET_BYTES]) -> bool
 pub struct Accepted<'a> {
     pub packet: &'a [u8; PACKET_BYTES],
     pub kind: Kind,
+    ghost taken: { read_number packet.now ≡ carried_out },
+    ghost kind_is: { kind_of (application_of packet.now) ≡ Some kind },
+    ghost body: { body_good (Some kind) packet.now ≡ true },
 }
 
-// Judges any bytes: a packet without fault, or why they are none.
+// Judges any bytes: a packet without fault, or why they are none. By `let else`, since `?` would hand on the library's error.
 #[tactic(auto, unfolding(crate::specs::Read::header_good, crate::specs::Read::read_number))]
 pub fn judge(packet: &[u8]) -> Result<Accepted<'_>, Cause>
     ensures number { call_number result ≡ read_number packet.now }
     ensures packet { IfOk result (λ a. a.packet.now ≡ packet.now) }
-    ensures kind { IfOk result (λ a. kind_of (application_of packet.now) ≡ Some a.kind) }
-    ensures body { IfOk result (λ a. body_good (Some a.kind) packet.now ≡ true) }
 {
     let Ok(packet) = <&[u8; PACKET_BYTES]>::try_from(packet) else {
         return Err(Cause::NoHeader);

@@ -5,8 +5,8 @@ ghost use Rattle.decode.specs.Read.{application_of, sequence_of, settings_of, ra
 
 use packet::layout;
 use packet::layout::PACKET_BYTES;
+use rate_code::editions::Edition;
 use settings::Settings;
-use wire::bits::is_set;
 use wire::number::BigEndian;
 
 // The application number: the low eleven bits of the first header word.
@@ -28,26 +28,20 @@ pub fn sequence(packet: &[u8; PACKET_BYTES]) -> u16
 pub fn settings(packet: &[u8; PACKET_BYTES]) -> Settings
     ensures { result ≡ settings_of packet.now }
 {
-    let flags = packet[layout::FLAGS_AT];
-    Settings {
-        limhi: u16::read(packet, layout::LIMHI_AT),
-        eonly: is_set(flags, layout::EONLY),
-        toferror: is_set(flags, layout::TOFERROR),
-        junk: is_set(flags, layout::JUNK),
-        hv: is_set(flags, layout::HV),
-        hvstep: packet[layout::HVSTEP_AT],
-    }
+    let limhi = u16::read(packet, layout::LIMHI_AT);
+    Settings::from_flags(packet[layout::FLAGS_AT], limhi, packet[layout::HVSTEP_AT])
 }
 
-// The least counts of the packet's first codes, as many as there is room for, in the edition of its mark.
+// The least counts of the packet's first codes, as many as there is room for, in the edition of its mark. By place: zipped with
+// the codes it would end with the shorter.
 pub fn rates(packet: &[u8; PACKET_BYTES], counts: &mut [u32])
     requires counts_len { body_at + code_bytes * length counts.old ≤ packet_bytes }
     requires packet_value { codes_good (length counts.old) packet.now ≡ true }
     ensures { counts.new ≡ rates_of (length counts.old) packet.now }
 {
-    let mark = packet[layout::MARK_AT];
+    let edition = Edition::from(packet[layout::MARK_AT]);
     for (i, count) in counts.iter_mut().enumerate() {
         let code = u16::read(packet, layout::BODY_AT + layout::CODE_BYTES * i);
-        *count = rate_code::editions::least_count(mark, code);
+        *count = edition.least_count(code);
     }
 }

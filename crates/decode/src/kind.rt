@@ -12,7 +12,7 @@ pub enum Kind {
     Beacon,
 }
 
-// The kind with the application number, if it is that of one.
+// The kind with the application number, if it is that of one. No `TryFrom`: an error would say nothing more.
 #[tactic(auto, unfolding(crate::specs::Read::kind_of))]
 pub fn kind_of(application: u16) -> Option<Kind>
     ensures { result ≡ kind_of application }

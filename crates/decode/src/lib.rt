@@ -1,4 +1,4 @@
-// What a reader finds in a packet, and the number with which one is refused.
+// What a reader finds in a packet, and why one is refused.
 #![tactic(auto)]
 
 pub mod faults;

@@ -1,13 +1,7 @@
 -- The ground reads every packet that a close writes, and what the checks of a close passed puts their values in range.
 -- Assumes nothing.
-use mathlib.Core.Path.{◌≡◌, refl, sym, ap, ap₂, ◌∙◌}
-use mathlib.Core.Bool.{true}
-use mathlib.Core.List.{List, ◌++◌}
-use Prim.Native.Nat.{ℕ, zero, suc, ◌+◌, ◌*◌, ◌≤◌, ◌<◌}
-use native.Mathlib.Omega.{arith}
-use borrow.Author.Tests.{leb-true, eq-eqb}
-use lib.ListN.{length, take}
-use lib.Seq.{take-add, take_all}
+use Rattle.std.proofs.Common.{◌≡◌, refl, sym, ap, ap₂, ◌∙◌, true, List, ◌++◌, ℕ, zero, suc, ◌+◌, ◌*◌, ◌≤◌, ◌<◌, arith, leb-true}
+use Rattle.std.proofs.Common.{eq-eqb, length, take, take-add, take_all}
 use Rattle.wire.specs.Bytes.{words}
 use Rattle.wire.specs.Lists.{all}
 use Rattle.wire.proofs.Lists.{each_part, all_part}

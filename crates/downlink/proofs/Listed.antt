@@ -1,9 +1,5 @@
 -- The ground gathers each listing packet that is written. Assumes nothing.
-use mathlib.Core.Path.{◌≡◌, refl}
-use mathlib.Core.List.{List}
-use Prim.Native.Nat.{ℕ, ◌<◌}
-use borrow.Author.Tests.{eq-eqb, lt-ltb}
-use lib.ListN.{length}
+use Rattle.std.proofs.Common.{◌≡◌, refl, List, ℕ, ◌<◌, eq-eqb, lt-ltb, length}
 use Rattle.tables.specs.Tables.{table_bytes}
 use Rattle.listing_packet.specs.Listing.{listing_packets, listing_packet}
 use Rattle.listing_packet.proofs.Listed.{listing_accepted}

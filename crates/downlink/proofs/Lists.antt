@@ -1,9 +1,6 @@
 -- After every lawful list of calls to a fresh processor the ground reads what the tally keeps of a closed interval: no word of any call.
 -- Assumes nothing.
-use mathlib.Core.Path.{sym, ap, ◌∙◌, subst}
-use mathlib.Core.List.{List}
-use Prim.Native.Nat.{ℕ, ◌<◌}
-use native.Mathlib.Omega.{arith}
+use Rattle.std.proofs.Common.{sym, ap, ◌∙◌, subst, List, ℕ, ◌<◌, arith}
 use Rattle.capacity.proofs.NumberLaws.{slots_in_packets}
 use Rattle.samples.proofs.Places.{All-map}
 use Rattle.samples.proofs.SelectionLaws.{slots_good}

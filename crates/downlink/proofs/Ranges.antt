@@ -1,11 +1,6 @@
 -- What the types say of a close's values is so of the tally at every moment: each record has 32 bits.
 -- Assumes nothing.
-use mathlib.Core.Path.{◌≡◌}
-use mathlib.Core.Bool.{true}
-use mathlib.Core.List.{List, [], ◌∷◌, map}
-use Prim.Native.Nat.{ℕ, zero, suc, ◌-◌, ◌<◌}
-use native.Mathlib.Omega.{arith}
-use lib.ListN.{length, replicate}
+use Rattle.std.proofs.Common.{◌≡◌, true, List, [], ◌∷◌, map, ℕ, zero, suc, ◌-◌, ◌<◌, arith, length, replicate}
 use Rattle.wire.specs.Lists.{All, EachBelow}
 use Rattle.wire.specs.Pieces.{padded}
 use Rattle.wire.proofs.BitLaws.{bit_small}

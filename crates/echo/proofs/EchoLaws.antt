@@ -1,7 +1,6 @@
 -- Laws of echoes: what is written so far, and zeros behind it. Assumes nothing.
-use Rattle.std.proofs.Common.{◌≡◌, ℕ, ◌-◌, ◌/◌, ◌%◌, ◌^◌, ◌≤◌, ◌<◌, List, ◌++◌, length, take, sym, ap, ◌∙◌, arith}
-use lib.ListN.{length-replicate}
-use lib.Seq.{take_all}
+use Rattle.std.proofs.Common.{◌≡◌, ℕ, ◌-◌, ◌/◌, ◌%◌, ◌^◌, ◌≤◌, ◌<◌, List, ◌++◌, length, take, sym, ap, ◌∙◌, arith, take_all}
+use Rattle.std.proofs.Math.ListN.{length-replicate}
 use Rattle.std.specs.Int.{w32, to_be_bytes}
 use Rattle.wire.specs.Bytes.{put, zeros}
 use Rattle.wire.specs.Pieces.{runs}

@@ -1,5 +1,6 @@
 -- Echoes (document 01, "Commands and loads"). Assumes nothing.
-use Rattle.std.specs.Prelude.{ℕ, ◌/◌, ◌%◌, List, ◌∷◌, ◌++◌}
+use Rattle.std.specs.Prelude.{ℕ, ◌/◌, ◌%◌, List, ◌∷◌, ◌++◌, take}
+use Rattle.echo.specs.declared.Writer.{Writer}
 use Rattle.wire.specs.Pieces.{padded}
 use Rattle.wire.specs.Text.{text, hex2}
 
@@ -45,3 +46,7 @@ package_ok_echo address placed = echoed (numbers address placed ++ text " OK" ++
 unfoldable pub package_error_echo : ℕ → ℕ → ℕ → ℕ → List ℕ
 package_error_echo address placed received computed =
     echoed (numbers address placed ++ text " ckserr " ++ hex8 received ++ text " " ++ hex8 computed ++ ending)
+
+-- what is written so far
+abbrev pub written : Writer → List ℕ
+written w = take w.at w.echo.now

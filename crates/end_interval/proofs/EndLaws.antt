@@ -1,11 +1,5 @@
 -- What an interval that can be ended has passed, and that its end leaves a state within its limits. Assumes nothing.
-use mathlib.Core.Path.{◌≡◌}
-use mathlib.Core.Bool.{true}
-use mathlib.Core.List.{List}
-use Prim.Native.Nat.{ℕ}
-use native.Mathlib.Omega.{arith}
-use borrow.Author.Tests.{eqb-true, le-leb}
-use lib.ListN.{length}
+use Rattle.std.proofs.Common.{◌≡◌, true, List, ℕ, arith, eqb-true, le-leb, length}
 use Rattle.wire.specs.Lists.{all}
 use Rattle.wire.proofs.Lists.{and_split}
 use Rattle.capacity.specs.declared.Capacity.{Capacity}

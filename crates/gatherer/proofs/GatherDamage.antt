@@ -1,15 +1,9 @@
 -- A listing packet with one byte off is refused, and any with another application number; the number is the lowest. Assumes nothing.
-use mathlib.Core.Path.{◌≡◌, refl}
-use mathlib.Core.Bool.{false, ◌&&◌}
-use mathlib.Core.List.{List, ◌++◌}
-use Prim.Native.Nat.{ℕ, ◌-◌, ◌*◌, ◌%◌, ◌<◌}
-use native.Mathlib.Omega.{arith}
-use lib.ListN.{length, take, drop}
+use Rattle.std.proofs.Common.{◌≡◌, refl, false, ◌&&◌, List, ◌++◌, ℕ, ◌-◌, ◌*◌, ◌%◌, ◌<◌, arith, length, take, drop, eqb, eq-eqb}
+use Rattle.std.proofs.Common.{ne_eqb}
 use Rattle.causes.proofs.CheckLaws.{lowest_by}
 use Rattle.packet.specs.Layout.{packet_bytes, sequence_counts}
 use Rattle.decode.specs.Read.{fields_good, application_of}
-use lib.Dec.{eqb}
-use borrow.Author.Tests.{eq-eqb, ne_eqb}
 use Rattle.wire.specs.Bytes.{zeros}
 use Rattle.wire.specs.Lists.{EachBelow}
 use Rattle.wire.specs.Pieces.{padded}

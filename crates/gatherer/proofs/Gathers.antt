@@ -1,15 +1,11 @@
 -- A gatherer that is given all 250 packets of one table and none of another has that table, and counts what is missing. Assumes nothing.
-use mathlib.Core.Path.{◌≡◌, refl, sym, ap, ◌∙◌}
-use mathlib.Core.Logic.{inl, inr, ⊎_elim}
-use mathlib.Core.Bool.{Bool, true, false, not, ◌&&◌, ◌||◌, false≢true}
-use mathlib.Core.List.{List, [], ◌∷◌}
-use Prim.Native.Nat.{ℕ, zero, suc, ◌+◌, ◌-◌, ◌*◌, ◌/◌, ◌≤◌, ◌<◌}
-use native.Mathlib.Omega.{arith}
-use native.Mathlib.Nat.{eq-or-lt_of_le}
-use lib.Dec.{eqb, ltb}
-use lib.ListN.{length, take, drop, get_or, set, length-take, length-set, length-replicate, get_or-replicate}
-use lib.Seq.{get_or-set_same, get_or-set_other, get_or-take, get_or-drop, ext_get_or}
-use borrow.Author.Tests.{eqb-true, eqb-false, eq-eqb, ltb-true, ltb-false, not-false}
+use Rattle.std.proofs.Common.{◌≡◌, refl, sym, ap, ◌∙◌, inl, inr, ⊎_elim, Bool, true, false, not, ◌&&◌, ◌||◌, List, [], ◌∷◌, ℕ, zero}
+use Rattle.std.proofs.Common.{suc, ◌+◌, ◌-◌, ◌*◌, ◌/◌, ◌≤◌, ◌<◌, arith, eq-or-lt_of_le, eqb, ltb, length, take, drop, get_or, set}
+use Rattle.std.proofs.Common.{length-take, length-set, get_or-set_same, get_or-set_other, get_or-take, get_or-drop, ext_get_or}
+use Rattle.std.proofs.Common.{eqb-true, eq-eqb, ltb-true, ltb-false}
+use Rattle.std.proofs.Math.Bool.{false≢true}
+use Rattle.std.proofs.Math.ListN.{length-replicate, get_or-replicate}
+use borrow.Author.Tests.{eqb-false, not-false}
 use Rattle.wire.specs.Bits.{bit_of}
 use Rattle.wire.specs.Bytes.{put}
 use Rattle.wire.specs.Pieces.{count_of}

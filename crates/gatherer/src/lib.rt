@@ -19,7 +19,7 @@ pub struct Gathered {
 }
 
 impl Gathered {
-    // A fresh gatherer.
+    // A fresh gatherer. No derived `Default`: its clause is what a caller gets.
     pub fn none() -> Self
         ensures { result ≡ none_gathered }
     {
@@ -28,7 +28,7 @@ impl Gathered {
         }
     }
 
-    // How many of the 250 addresses are missing.
+    // How many of the 250 addresses are missing. A loop: by a chain the proof did not close.
     pub fn missing(&self) -> usize
         ensures { (result ≡ missing_of self.now) × (result ≤ listing_packets) }
     {

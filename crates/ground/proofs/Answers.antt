@@ -1,19 +1,19 @@
 -- The reader answers an accepted packet by its kind, and a refused one with its number and no records. Assumes nothing.
-use Rattle.std.specs.Prelude.{Option, Some, None}
-use mathlib.Core.Path.{◌≡◌, refl, sym, ap, ◌∙◌}
-use mathlib.Core.Bool.{true, cond}
-use mathlib.Core.List.{List, []}
-use Prim.Native.Nat.{ℕ}
-use lib.Dec.{eqb}
-use lib.ListN.{length, take, drop}
-use borrow.Author.Tests.{eqb-true, eqb-false, eq-eqb, ne_eqb}
+use Rattle.std.specs.Prelude.{Option, Some, None, ◌≡◌, refl, true, cond, List, [], ℕ, eqb, length, take, drop}
+use Rattle.std.proofs.Common.{sym, ap, ◌∙◌, eqb-true, eq-eqb, ne_eqb, leb-true}
+use Rattle.std.proofs.lemmas.Bool.{eqb-false}
 use Rattle.wire.proofs.Lists.{and_left, decide}
-use Rattle.packet.specs.Layout.{body_at, body_bytes, packet_bytes}
+use Rattle.wire.specs.Bytes.{zeros}
+use Rattle.boxes.specs.Boxes.{beacon_count}
+use Rattle.rate_code.specs.Editions.{mark_number, mark_from}
+use Rattle.rate_code.proofs.EditionLaws.{mark_numbered}
+use Rattle.packet.specs.Layout.{body_at, body_bytes, packet_bytes, rate_count}
 use Rattle.decode.specs.declared.kind.Kind.{Kind}
 use Rattle.decode.specs.declared.kind.Kind.TheVariants.{Rate, Sample, Beacon}
-use Rattle.decode.specs.Read.{application_of, kind_of, read_number}
-use Rattle.decode.proofs.Reading.{accepted_length}
-use Rattle.ground.specs.Ground.{Packet, refused, accepted, contents, read_of, is_sample, samples_in, records_of}
+use Rattle.decode.specs.Limits.{last_mark}
+use Rattle.decode.specs.Read.{application_of, sequence_of, time_of, frame_of, mark_of, kind_of, rates_of, settings_of, sum_of, end_good, body_good, read_number}
+use Rattle.decode.proofs.Reading.{accepted_length, accepted_rate, accepted_beacon, rate_end, beacon_end_lem}
+use Rattle.ground.specs.Ground.{Packet, no_settings, refused, accepted, contents, read_of, contents_of, told_of, is_sample, samples_in, records_of}
 
 pub samples_length : (xs : List ℕ) → samples_in xs ≡ true → length xs ≡ packet_bytes
 unfolding samples_in
@@ -66,3 +66,30 @@ the_records xs k e q = rw (eq-eqb _ _ e, q)
 pub no_records : (xs : List ℕ) → (read_number xs ≡ 0 → ⊥) → records_of xs ≡ []
 unfolding records_of samples_in
 no_records xs ne = rw (ne_eqb _ _ ne)
+
+-- ---- what is handed back
+
+-- the mark of rates has its number again
+mark_told : (xs : List ℕ) → end_good xs ≡ true → mark_number (mark_from (mark_of xs)) ≡ mark_of xs
+mark_told xs e = mark_numbered (mark_of xs) (leb-true (mark_of xs) last_mark (and_left _ _ e))
+
+-- what is handed back of a packet without fault tells what it holds
+told_is : (xs : List ℕ) (k : Kind) → body_good (Some k) xs ≡ true
+    → told_of (record { application = application_of xs; sequence = sequence_of xs; time = time_of xs; frame = frame_of xs; contents = contents_of k xs })
+    (contents_of k xs)
+    ≡ contents (Some k) xs
+unfolding contents accepted
+told_is xs Rate e =
+    ap (λ (m : ℕ). accepted (Some Rate) xs m (rates_of rate_count xs) (settings_of xs) (sum_of xs) (zeros beacon_count) 0)
+    (mark_told xs (rate_end xs (accepted_rate xs e)))
+told_is xs Sample e = refl
+told_is xs Beacon e =
+    ap (λ (m : ℕ). accepted (Some Beacon) xs m (zeros rate_count) no_settings 0 (rates_of beacon_count xs) 0)
+    (mark_told xs (beacon_end_lem xs (accepted_beacon xs e)))
+
+-- and so what is read of it
+pub told_read : (xs : List ℕ) (k : Kind) → read_number xs ≡ 0 → kind_of (application_of xs) ≡ Some k → body_good (Some k) xs ≡ true
+    → told_of (record { application = application_of xs; sequence = sequence_of xs; time = time_of xs; frame = frame_of xs; contents = contents_of k xs })
+    (contents_of k xs)
+    ≡ read_of xs
+told_read xs k z q e = told_is xs k e ∙ sym (read_accepted xs (Some k) z q)

@@ -1,10 +1,6 @@
 -- Reading a written packet gives back its stamp and what its kind was written from; the archive reads as before. Assumes nothing.
-use Rattle.std.specs.Prelude.{Option, Some}
-use mathlib.Core.Path.{◌≡◌, sym, ap, ◌∙◌}
-use mathlib.Core.List.{List, ◌++◌}
-use Prim.Native.Nat.{ℕ, ◌<◌}
-use native.Mathlib.Omega.{arith}
-use lib.ListN.{length}
+use Rattle.std.specs.Prelude.{Option, Some, ◌≡◌, List, ◌++◌, ℕ, ◌<◌, length}
+use Rattle.std.proofs.Common.{sym, ap, ◌∙◌, arith}
 use Rattle.causes.specs.Causes.{carried_out}
 use Rattle.wire.specs.Bytes.{words, zeros}
 use Rattle.boxes.specs.Boxes.{beacon_count}

@@ -1,11 +1,7 @@
 -- A packet with one byte off is refused for its header or its sum, and hands back no records. Assumes nothing.
-use mathlib.Core.Path.{◌≡◌, sym, ap, ◌∙◌}
-use mathlib.Core.Logic.{⊎_elim, ⊎_map}
-use mathlib.Core.Bool.{false}
-use mathlib.Core.List.{List, ◌++◌}
-use Prim.Native.Nat.{ℕ, ◌<◌}
-use native.Mathlib.Omega.{arith}
-use lib.ListN.{length}
+use Rattle.std.specs.Prelude.{◌≡◌, false, List, ◌++◌, ℕ, ◌<◌, length}
+use Rattle.std.proofs.Common.{sym, ap, ◌∙◌, ⊎_elim, arith}
+use Rattle.std.proofs.Math.Logic.{⊎_map}
 use Rattle.causes.specs.Causes.{no_header, packet_sum}
 use Rattle.wire.specs.Bytes.{words, zeros}
 use Rattle.wire.specs.Lists.{EachBelow}

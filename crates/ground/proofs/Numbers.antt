@@ -1,14 +1,7 @@
 -- The reader's number is the lowest that applies, and 11 for every application number but those of the three kinds. Assumes nothing.
-use Rattle.std.specs.Prelude.{Option, Some, None}
-use mathlib.Core.Path.{◌≡◌, refl, sym, ap, subst, ◌∙◌}
-use mathlib.Core.Logic.{◌⊎◌, inl, inr}
-use mathlib.Core.Bool.{true, ◌&&◌, false≢true}
-use mathlib.Core.List.{List}
-use Prim.Native.Nat.{ℕ, ◌≤◌}
-use native.Mathlib.Omega.{arith}
-use lib.Dec.{leb, eqb}
-use lib.ListN.{length}
-use borrow.Author.Tests.{ne_eqb, leb-true}
+use Rattle.std.specs.Prelude.{Option, Some, None, ◌≡◌, refl, ◌⊎◌, true, ◌&&◌, List, ℕ, ◌≤◌, leb, eqb, length}
+use Rattle.std.proofs.Common.{sym, ap, subst, ◌∙◌, inl, inr, arith, ne_eqb, leb-true}
+use Rattle.std.proofs.Math.Bool.{false≢true}
 use Rattle.causes.specs.Causes.{no_header}
 use Rattle.causes.proofs.CheckLaws.{lowest}
 use Rattle.wire.proofs.Lists.{and_false, and_left, and_right, decide}

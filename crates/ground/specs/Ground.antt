@@ -5,6 +5,7 @@ use Rattle.causes.specs.Causes.{carried_out, cause_number}
 use Rattle.wire.specs.Bytes.{zeros}
 use Rattle.boxes.specs.Boxes.{beacon_count}
 use Rattle.settings.specs.declared.Settings.{Settings}
+use Rattle.rate_code.specs.Editions.{mark_number, mark_from}
 use Rattle.decode.specs.declared.kind.Kind.{Kind}
 use Rattle.decode.specs.declared.kind.Kind.TheVariants.{Rate, Sample, Beacon}
 use Rattle.packet.specs.Layout.{body_at, body_bytes, rate_count}
@@ -87,9 +88,9 @@ read_of xs = cond (eqb (read_number xs) carried_out) (contents (kind_of (applica
 
 -- what `read` hands back of a packet's own bytes
 abbrev pub contents_of : Kind → List ℕ → own.Contents
-contents_of Rate xs = of_kind.Rate (mark_of xs) (rates_of rate_count xs) (settings_of xs) (sum_of xs)
+contents_of Rate xs = of_kind.Rate (mark_from (mark_of xs)) (rates_of rate_count xs) (settings_of xs) (sum_of xs)
 contents_of Sample xs = of_kind.Sample (mark_of xs)
-contents_of Beacon xs = of_kind.Beacon (mark_of xs) (rates_of beacon_count xs)
+contents_of Beacon xs = of_kind.Beacon (mark_from (mark_of xs)) (rates_of beacon_count xs)
 
 -- what `read` hands back, as that record
 abbrev pub told_of : taken.Packet → own.Contents → Packet
@@ -100,7 +101,7 @@ told_of h (of_kind.Rate mark rates settings sum) = record {
   sequence = h.sequence;
   time = h.time;
   frame = h.frame;
-  mark = mark;
+  mark = mark_number mark;
   rates = rates;
   settings = settings;
   sum = sum;
@@ -128,7 +129,7 @@ told_of h (of_kind.Beacon mark beacons) = record {
   sequence = h.sequence;
   time = h.time;
   frame = h.frame;
-  mark = mark;
+  mark = mark_number mark;
   rates = zeros rate_count;
   settings = no_settings;
   sum = 0;

@@ -1,21 +1,24 @@
 // What the reader hands back of a packet's own bytes, by kind.
-ghost use Rattle.std.specs.Prelude.{◌≡◌, true, Some};
-ghost use Rattle.decode.specs.Read.{body_good};
+ghost use Rattle.std.specs.Prelude.{◌≡◌};
 ghost use Rattle.ground.specs.Ground.{contents_of};
 
 use crate::Contents;
 use boxes::BEACONS;
+use decode::faults::Accepted;
 use decode::fields;
 use decode::kind::Kind;
 use packet::layout;
-use packet::layout::{PACKET_BYTES, RATES};
+use packet::layout::RATES;
+use rate_code::editions::Mark;
 
+// A match on the kind, since each has fields of its own.
 #[tactic(auto, unfolding(decode::specs::Read::body_good, decode::specs::Read::rate_good, decode::specs::Read::beacon_good))]
-pub fn contents_of(kind: Kind, packet: &[u8; PACKET_BYTES]) -> Contents
-    requires { body_good (Some kind) packet.now ≡ true }
-    ensures { result ≡ contents_of kind packet.now }
+pub fn contents_of(accepted: Accepted) -> Contents
+    ensures { result ≡ contents_of accepted.entry.kind accepted.entry.packet.now }
 {
-    let mark = packet[layout::MARK_AT];
+    let Accepted { packet, kind } = accepted;
+    let byte = packet[layout::MARK_AT];
+    let mark = Mark::from(byte);
     match kind {
         Kind::Rate => {
             let mut rates = [0u32; RATES];
@@ -27,7 +30,7 @@ pub fn contents_of(kind: Kind, packet: &[u8; PACKET_BYTES]) -> Contents
                 sum: wire::read::u24_at(packet, layout::TABLE_SUM_AT),
             }
         }
-        Kind::Sample => Contents::Sample { p: mark },
+        Kind::Sample => Contents::Sample { p: byte },
         Kind::Beacon => {
             let mut beacons = [0u32; BEACONS];
             fields::rates(packet, &mut beacons);

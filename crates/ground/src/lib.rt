@@ -13,6 +13,7 @@ use decode::faults::{Accepted, judge};
 use decode::fields;
 use decode::kind::Kind;
 use packet::layout::{BODY_AT, FRAME_AT, RATES, TIME_AT};
+use rate_code::editions::Mark;
 use settings::Settings;
 use wire::number::BigEndian;
 
@@ -30,7 +31,7 @@ pub struct Packet {
 pub enum Contents {
     Rate {
         // The edition of the rates' codes, byte 269.
-        mark: u8,
+        mark: Mark,
         // The least counts of eight totals and 116 boxes.
         rates: [u32; RATES],
         settings: Settings,
@@ -42,23 +43,24 @@ pub enum Contents {
         p: u8,
     },
     Beacon {
-        mark: u8,
+        mark: Mark,
         beacons: [u32; BEACONS],
     },
 }
 
 // Reads any bytes.
-#[tactic(auto, unfolding(crate::specs::Ground::read_of, crate::specs::Ground::contents, crate::specs::Ground::accepted))]
+#[tactic(auto, using(crate::proofs::Answers::told_read), unfolding(crate::specs::Ground::read_of))]
 pub fn read(packet: &[u8]) -> Result<Packet, Cause>
     ensures { told result ≡ read_of packet.now }
 {
-    let Accepted { packet, kind } = judge(packet)?;
+    let accepted = judge(packet)?;
+    let packet = accepted.packet;
     Ok(Packet {
         application: fields::application(packet),
         sequence: fields::sequence(packet),
         time: u32::read(packet, TIME_AT),
         frame: u16::read(packet, FRAME_AT),
-        contents: contents_of(kind, packet),
+        contents: contents_of(accepted),
     })
 }
 

@@ -1,18 +1,14 @@
 // The gatherer with table buffers one shorter and one longer than they must be, and an empty one; then packets that more
 // than one cause refuses.
-use causes::call_number;
+use causes::{Cause, call_number};
 use gatherer::{Gathered, gather};
 use packet::layout::PACKET_BYTES;
 
+// As document 01 gives it: no test takes it from the code that it tests.
 const TABLE_BYTES: usize = 62985;
 
-fn gather_with(packet: &[u8], tables: &mut [u8]) -> u8 {
-    call_number(&gather(&mut Gathered::none(), packet, tables))
-}
-
-fn gather_tables(rt: &HostRuntime, packet: &[u8], tables: &mut [u8]) {
-    let n = gather_with(packet, tables);
-    let _ = println!(rt; "gather-tables-{} {n}", tables.len());
+fn gather_with(packet: &[u8], tables: &mut [u8]) -> Result<(), Cause> {
+    gather(&mut Gathered::none(), packet, tables)
 }
 
 // Packet 0 of tables of zeros.
@@ -23,34 +19,26 @@ fn packet_0() -> [u8; PACKET_BYTES] {
     out
 }
 
-fn lengths(rt: &HostRuntime) {
-    let packet = packet_0();
-    let mut none = [0u8; 0];
-    let mut short = [0u8; 62984];
-    let mut long = [0u8; 62986];
-    gather_tables(rt, &packet, &mut none);
-    gather_tables(rt, &packet, &mut short);
-    gather_tables(rt, &packet, &mut long);
+fn lengths(rt: &HostRuntime, packet: &[u8]) {
+    let mut long = [0u8; TABLE_BYTES + 1];
+    for n in [0, TABLE_BYTES - 1, TABLE_BYTES + 1] {
+        let answer = gather_with(packet, &mut long[..n]);
+        let _ = println!(rt; "gather-tables-{n} {}", call_number(&answer));
+    }
 }
 
-// The lowest number that applies is given: 1 before any other.
-fn lowest(rt: &HostRuntime) {
-    let packet = packet_0();
-    let mut short = [0u8; 62984];
-    let mut right = [0u8; TABLE_BYTES];
-    let _ = println!(rt;
-        "gather-of-no-byte-tables-62984 {}",
-        gather_with(b"", &mut short)
-    );
-    let _ = println!(rt;
-        "gather-packet-0-tables-62984 {}",
-        gather_with(&packet, &mut short)
-    );
-    let _ = println!(rt; "gather-of-no-byte {}", gather_with(b"", &mut right));
-    let _ = println!(rt; "gather-packet-0 {}", gather_with(&packet, &mut right));
+// With this table buffer, of whose length `told` stands behind the names.
+fn lowest(rt: &HostRuntime, packet: &[u8], told: &str, tables: &mut [u8]) {
+    let answer = gather_with(b"", tables);
+    let _ = println!(rt; "gather-of-no-byte{told} {}", call_number(&answer));
+    let answer = gather_with(packet, tables);
+    let _ = println!(rt; "gather-packet-0{told} {}", call_number(&answer));
 }
 
 pub fn run(rt: &HostRuntime) {
-    lengths(rt);
-    lowest(rt);
+    let packet = packet_0();
+    lengths(rt, &packet);
+    // The lowest number that applies is given: 1 before any other.
+    lowest(rt, &packet, "-tables-62984", &mut [0u8; 62984]);
+    lowest(rt, &packet, "", &mut [0u8; TABLE_BYTES]);
 }

@@ -1,16 +1,12 @@
 -- The state of a state's image is the state, and the image is one of a state. Assumes nothing.
-use mathlib.Core.Path.{◌≡◌, refl, ap, ◌∙◌}
-use mathlib.Core.Bool.{Bool, true, false}
-use mathlib.Core.List.{List, [], ◌∷◌, ◌++◌}
-use Prim.Native.Nat.{ℕ, ◌+◌, ◌*◌, ◌%◌, ◌<◌}
-use native.Mathlib.Omega.{arith}
-use borrow.Author.Tests.{le-leb}
-use lib.ListN.{length, get_or, length-append, get_or-append}
-use lib.Seq.{get_or-append-add}
-use Rattle.wire.specs.Bits.{bit_of, is_set}
+use Rattle.std.proofs.Common.{◌≡◌, refl, ap, ◌∙◌, true, List, [], ◌∷◌, ◌++◌, ℕ, ◌+◌, ◌*◌, ◌%◌, ◌<◌, arith, le-leb, length, get_or}
+use Rattle.std.proofs.Common.{length-append, get_or-append-add}
+use Rattle.std.proofs.Math.ListN.{get_or-append}
 use Rattle.wire.specs.Bytes.{at16, at32, be16, be32, words}
 use Rattle.wire.proofs.Bytes.{value16, value32}
 use Rattle.wire.proofs.Pieces.{each_all, runs_at, words_runs, words_append, table_is}
+use Rattle.settings.specs.Settings.{settings_by}
+use Rattle.settings.proofs.FlagLaws.{flags_back}
 use Rattle.capacity.specs.declared.Capacity.{Capacity}
 use Rattle.capacity.specs.declared.Capacity.TheVariants.{Slots704}
 use Rattle.command.specs.declared.command.Setting.{Setting}
@@ -19,7 +15,6 @@ use Rattle.command.specs.declared.command.Command.{Command}
 use Rattle.command.specs.declared.command.Command.TheVariants.{Set, Load}
 use Rattle.command_list.specs.CommandList.{filler}
 use Rattle.state.specs.declared.State.{State}
-use Rattle.image.specs.Layout.{hv_flag, eonly_flag, toferror_flag, junk_flag}
 use Rattle.image.specs.Image.{setting_kind, setting_of, command_bytes, command_of, entry_at, commands_bytes, numbers_at, commands_at}
 use Rattle.image.specs.Image.{settings_in, interval_in, command_list_in, state_of, low, two, flags_of}
 use Rattle.image.specs.Image.{interval_bytes, settings_image, command_list_bytes, image_of, entry_good, image_good}
@@ -82,25 +77,6 @@ command_good : (c : Command) → CommandFits c → entry_good (get_or (command_b
 unfolding command_bytes
 command_good (Set k n) h = ap (λ (v : ℕ). entry_good (setting_kind k) v) (value32 n) ∙ kind_good k n h
 command_good (Load a y) h = refl
-
-flags_back : (a b c d : Bool) → let n = hv_flag * bit_of a + eonly_flag * bit_of b + toferror_flag * bit_of c + junk_flag * bit_of d in
-    (is_set n hv_flag ≡ a) × (is_set n eonly_flag ≡ b) × (is_set n toferror_flag ≡ c) × (is_set n junk_flag ≡ d)
-flags_back true true true true = (refl, refl, refl, refl)
-flags_back true true true false = (refl, refl, refl, refl)
-flags_back true true false true = (refl, refl, refl, refl)
-flags_back true true false false = (refl, refl, refl, refl)
-flags_back true false true true = (refl, refl, refl, refl)
-flags_back true false true false = (refl, refl, refl, refl)
-flags_back true false false true = (refl, refl, refl, refl)
-flags_back true false false false = (refl, refl, refl, refl)
-flags_back false true true true = (refl, refl, refl, refl)
-flags_back false true true false = (refl, refl, refl, refl)
-flags_back false true false true = (refl, refl, refl, refl)
-flags_back false true false false = (refl, refl, refl, refl)
-flags_back false false true true = (refl, refl, refl, refl)
-flags_back false false true false = (refl, refl, refl, refl)
-flags_back false false false true = (refl, refl, refl, refl)
-flags_back false false false false = (refl, refl, refl, refl)
 
 module _ (s : State) (f : StateFits s) where
   abbrev F : List ℕ
@@ -272,8 +248,8 @@ module _ (s : State) (f : StateFits s) where
   unfolding settings_in
   limhi_back = (λ j. 256 * at_S 0 (omega arith) j + at_S 1 (omega arith) j) ∙ value16 s.settings.limhi
 
-  flag_back : (a : Bool) (v : ℕ) → is_set (flags_of s.settings) v ≡ a → is_set (get_or X 564 0) v ≡ a
-  flag_back a v e = ap (λ (n : ℕ). is_set n v) (at_S 2 (omega arith)) ∙ e
+  flag_back : get_or X 564 0 ≡ flags_of s.settings
+  flag_back = at_S 2 (omega arith)
 
   hvstep_back : (settings_in X).hvstep ≡ s.settings.hvstep
   unfolding settings_in
@@ -281,17 +257,7 @@ module _ (s : State) (f : StateFits s) where
 
   settings_back : settings_in X ≡ s.settings
   unfolding settings_in
-  settings_back =
-      let t = s.settings in
-      let b = flags_back t.hv t.eonly t.toferror t.junk in
-      λ i. record {
-        limhi = limhi_back i;
-        eonly = flag_back t.eonly eonly_flag b.1 i;
-        toferror = flag_back t.toferror toferror_flag b.2 i;
-        junk = flag_back t.junk junk_flag b.3 i;
-        hv = flag_back t.hv hv_flag b.0 i;
-        hvstep = hvstep_back i;
-      }
+  settings_back = (λ i. settings_by (flag_back i) (limhi_back i) (hvstep_back i)) ∙ flags_back s.settings
 
   -- ---- the commands
 

@@ -1,9 +1,5 @@
 -- The lengths of an image's parts. Assumes nothing.
-use mathlib.Core.Path.{◌≡◌, ◌∙◌}
-use mathlib.Core.List.{List, ◌++◌}
-use Prim.Native.Nat.{ℕ}
-use native.Mathlib.Omega.{arith}
-use lib.ListN.{length, length-append}
+use Rattle.std.proofs.Common.{◌≡◌, ◌∙◌, List, ◌++◌, ℕ, arith, length, length-append}
 use Rattle.wire.specs.Bytes.{be32, words}
 use Rattle.wire.proofs.Bytes.{length_words}
 use Rattle.counts.specs.declared.Counts.{Counts}

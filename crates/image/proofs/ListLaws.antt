@@ -1,13 +1,9 @@
 -- A list of waiting commands that a loop fills, and where each command's bytes stand. Assumes nothing.
-use mathlib.Core.Path.{◌≡◌, refl, sym, ap, ◌∙◌}
-use mathlib.Core.List.{List, [], ◌∷◌, ◌++◌, append_assoc, append-nil}
-use Prim.Native.Nat.{ℕ, zero, suc, ◌+◌, ◌*◌, ◌≤◌, ◌<◌}
-use native.Mathlib.Omega.{arith}
-use native.Mathlib.Numerals.{add-one}
-use lib.ListN.{length, take, get_or, set, length-append, get_or-append}
-use mathlib.Core.Logic.{⊎_elim}
-use native.Mathlib.Nat.{eq-or-lt_of_le}
-use lib.Seq.{take-suc, take-suc-set, take_all, length-take-le, get_or-append-add, ext_get_or, get_or_at}
+use Rattle.std.proofs.Common.{◌≡◌, refl, sym, ap, ◌∙◌, List, [], ◌∷◌, ◌++◌, append_assoc, append-nil, ℕ, zero, suc, ◌+◌, ◌*◌, ◌≤◌}
+use Rattle.std.proofs.Common.{◌<◌, arith, add-one, length, take, get_or, set, length-append, ⊎_elim, eq-or-lt_of_le, take-suc}
+use Rattle.std.proofs.Common.{take-suc-set, length-take-le, get_or-append-add, ext_get_or}
+use Rattle.std.proofs.Math.ListN.{get_or-append}
+use Rattle.std.proofs.Math.Seq.{get_or_at}
 use Rattle.command_list.specs.declared.Waiting.{Waiting}
 use Rattle.command.specs.declared.command.Command.{Command}
 use Rattle.command.specs.declared.command.Command.TheVariants.{Set, Load}
@@ -23,11 +19,6 @@ module _ (f : ℕ → Waiting) where
       → take (i + 1) (set xs i v) ≡ waitings (i + 1) f
   unfolding waitings
   waitings_turn {v} xs i h e q = rw add-one (take-suc-set xs i v h ∙ (λ k. e k ++ q k ∷ []))
-
-  pub waitings_end : (xs : List Waiting) (i n : ℕ) → i ≤ n → n ≤ i → length xs ≡ n → take i xs ≡ waitings i f → xs ≡ waitings n f
-  waitings_end xs i n h g l e =
-      let k : i ≡ n = omega arith in
-      sym (take_all i xs (omega arith)) ∙ e ∙ ap (λ (m : ℕ). waitings m f) k
 
 -- ---- six bytes a command
 

@@ -1,11 +1,11 @@
 -- A state as bytes, the most significant of a number first, the state that such bytes are, and which bytes are none. Assumes nothing.
 use Rattle.std.specs.Prelude.{Bool, cond, ◌&&◌, ◌||◌, List, [], ◌∷◌, ◌++◌, ℕ, zero, suc, ◌+◌, ◌*◌, ◌%◌, eqb, leb, ltb, get_or}
-use Rattle.wire.specs.Bits.{bit_of, is_set}
 use Rattle.wire.specs.Bytes.{one, at16, at32, be16, be32, words}
 use Rattle.wire.specs.Pieces.{each, table}
 use Rattle.capacity.specs.declared.Capacity.TheVariants.{Slots704}
 use Rattle.counts.specs.declared.Counts.{Counts}
 use Rattle.settings.specs.declared.Settings.{Settings}
+use Rattle.settings.specs.Settings.{settings_flags, settings_by}
 use Rattle.command.specs.declared.command.Setting.{Setting}
 use Rattle.command.specs.declared.command.Setting.TheVariants.{Limhi, Eonly, Toferror, Junk, Hv, Hvstep}
 use Rattle.command.specs.declared.command.Command.{Command}
@@ -16,7 +16,7 @@ use Rattle.state.specs.declared.State.{State}
 use Rattle.state.specs.declared.interval.Interval.{Interval}
 use Rattle.image.specs.Layout.{frame_at, taken_at, boxes_at, beacons_at, used_at, replaced_at, readings_at, totals_at, limhi_at, flags_at}
 use Rattle.image.specs.Layout.{hvstep_at, accepted_at, waiters_at, entries_at, entry_bytes, next_at, reach_at}
-use Rattle.image.specs.Layout.{hv_flag, eonly_flag, toferror_flag, junk_flag, setting_kinds, load_kind}
+use Rattle.image.specs.Layout.{setting_kinds, load_kind}
 
 -- ---- a waiting command: a kind byte, its value or address in four bytes, and y, which is 0 for a setting
 
@@ -64,14 +64,7 @@ commands_at b at n = waitings n (λ i. entry_at b (at + entry_bytes * i))
 
 -- other bits of the flags are ignored
 unfoldable pub settings_in : List ℕ → Settings
-settings_in b = record {
-  limhi = at16 b limhi_at;
-  eonly = is_set (get_or b flags_at 0) eonly_flag;
-  toferror = is_set (get_or b flags_at 0) toferror_flag;
-  junk = is_set (get_or b flags_at 0) junk_flag;
-  hv = is_set (get_or b flags_at 0) hv_flag;
-  hvstep = get_or b hvstep_at 0;
-}
+settings_in b = settings_by (get_or b flags_at 0) (at16 b limhi_at) (get_or b hvstep_at 0)
 
 unfoldable pub interval_in : List ℕ → Interval
 interval_in b = record {
@@ -111,8 +104,7 @@ abbrev pub low : ℕ → ℕ
 low n = n % 4294967296
 
 abbrev pub flags_of : Settings → ℕ
-flags_of s =
-    hv_flag * bit_of s.hv + eonly_flag * bit_of s.eonly + toferror_flag * bit_of s.toferror + junk_flag * bit_of s.junk
+flags_of s = settings_flags s
 
 abbrev pub counts_bytes : Counts → List ℕ
 counts_bytes c = words c.boxes ++ words c.beacons

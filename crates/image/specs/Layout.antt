@@ -1,5 +1,7 @@
 -- Where each part of a state's image stands. Assumes nothing.
 use Rattle.std.specs.Prelude.{ℕ, ◌+◌, ◌*◌}
+-- the flags' values
+pub use Rattle.settings.specs.Settings.{hv_flag, eonly_flag, toferror_flag, junk_flag}
 
 -- the frame in two bytes, then the interval, four bytes a number: taken, 116 boxes, 12 beacons, used and replaced slots, readings and
 -- eight totals
@@ -59,19 +61,6 @@ reach_at = next_at + 4
 
 abbrev pub image_bytes : ℕ
 image_bytes = reach_at + 4
-
--- the flags' values
-abbrev pub hv_flag : ℕ
-hv_flag = 128
-
-abbrev pub eonly_flag : ℕ
-eonly_flag = 64
-
-abbrev pub toferror_flag : ℕ
-toferror_flag = 32
-
-abbrev pub junk_flag : ℕ
-junk_flag = 16
 
 -- an entry's kind: a setting's is below this number, and a load has one of its own
 abbrev pub setting_kinds : ℕ

@@ -35,14 +35,7 @@ pub const REACH_AT: usize = NEXT_AT + 4;
 
 pub const IMAGE_BYTES: usize = REACH_AT + 4;
 
-// The flags' values.
-pub const HV_FLAG: u8 = 128;
-
-pub const EONLY_FLAG: u8 = 64;
-
-pub const TOFERROR_FLAG: u8 = 32;
-
-pub const JUNK_FLAG: u8 = 16;
+pub type Image = [u8; IMAGE_BYTES];
 
 // The kinds of settings are below this one. They stay bytes: an entry may have any byte as its kind, and `judge` tells them apart.
 pub const SETTING_KINDS: u8 = 6;

@@ -1,13 +1,12 @@
 // The state that an image is.
 ghost use Rattle.std.specs.Prelude.{◌≡◌, ◌+◌, ◌*◌, ◌≤◌, ◌<◌, length};
-ghost use Rattle.image.specs.Layout.{image_bytes};
 ghost use Rattle.image.specs.Image.{setting_of, command_of, entry_at, numbers_at, commands_at};
 ghost use Rattle.image.specs.Image.{settings_in, interval_in, command_list_in, state_of};
 
 use crate::layout::{
-    ACCEPTED_AT, BEACONS_AT, BOXES_AT, ENTRIES_AT, ENTRY_BYTES, EONLY_FLAG, FLAGS_AT, FRAME_AT,
-    HV_FLAG, HVSTEP_AT, JUNK_FLAG, LIMHI_AT, LOAD_KIND, NEXT_AT, REACH_AT, READINGS_AT,
-    REPLACED_AT, TAKEN_AT, TOFERROR_FLAG, TOTALS_AT, USED_AT, WAITERS_AT,
+    ACCEPTED_AT, BEACONS_AT, BOXES_AT, ENTRIES_AT, ENTRY_BYTES, FLAGS_AT, FRAME_AT, HVSTEP_AT,
+    Image, LIMHI_AT, LOAD_KIND, NEXT_AT, REACH_AT, READINGS_AT, REPLACED_AT, TAKEN_AT, TOTALS_AT,
+    USED_AT, WAITERS_AT,
 };
 use capacity::Capacity;
 use command::command::{Command, Setting};
@@ -18,10 +17,10 @@ use samples::slots::SlotUse;
 use settings::Settings;
 use state::State;
 use state::interval::Interval;
-use wire::bits::is_set;
 use wire::number::BigEndian;
 
-// A setting by its kind. It is no `TryFrom`: a kind that is none reads as hvstep.
+// A setting by its kind. A function: `Setting` stands in another crate, so no `From`, and any other kind reads as hvstep, so no
+// `TryFrom`.
 #[tactic(auto, unfolding(crate::specs::Image::setting_of))]
 fn setting_of(kind: u8) -> Setting
     ensures { result ≡ setting_of kind }
@@ -55,7 +54,8 @@ fn entry_at(image: &[u8], at: usize) -> Waiting
     }
 }
 
-// The 32-bit numbers from `at` on, as many as there is room for.
+// The 32-bit numbers from `at` on, as many as there is room for. By place: by chunks the
+// proof would have to join the parts again.
 pub fn words_at(image: &[u8], at: usize, out: &mut [u32])
     requires { at + 4 * length out.old ≤ length image.now }
     ensures { out.new ≡ numbers_at image.now at (length out.old) }
@@ -79,6 +79,7 @@ fn commands_at(image: &[u8], at: usize) -> [Waiting; 32]
     requires { at + 192 ≤ length image.now }
     ensures { result ≡ commands_at image.now at 32 }
 {
+    // Each is written over, as a fresh list's: one function for both would be called with nothing.
     let filler = Waiting {
         command: Command::Set(Setting::Limhi, 0),
     };
@@ -91,24 +92,15 @@ fn commands_at(image: &[u8], at: usize) -> [Waiting; 32]
 
 // The settings; other bits of the flags are ignored.
 #[tactic(auto, unfolding(crate::specs::Image::settings_in))]
-fn settings_in(image: &[u8]) -> Settings
-    requires { length image.now ≡ image_bytes }
+fn settings_in(image: &Image) -> Settings
     ensures { result ≡ settings_in image.now }
 {
-    let flags = image[FLAGS_AT];
-    Settings {
-        limhi: u16::read(image, LIMHI_AT),
-        eonly: is_set(flags, EONLY_FLAG),
-        toferror: is_set(flags, TOFERROR_FLAG),
-        junk: is_set(flags, JUNK_FLAG),
-        hv: is_set(flags, HV_FLAG),
-        hvstep: image[HVSTEP_AT],
-    }
+    let limhi = u16::read(image, LIMHI_AT);
+    Settings::from_flags(image[FLAGS_AT], limhi, image[HVSTEP_AT])
 }
 
 #[tactic(auto, unfolding(crate::specs::Image::interval_in))]
-fn interval_in(image: &[u8]) -> Interval
-    requires { length image.now ≡ image_bytes }
+fn interval_in(image: &Image) -> Interval
     ensures { result ≡ interval_in image.now }
 {
     Interval {
@@ -127,8 +119,7 @@ fn interval_in(image: &[u8]) -> Interval
 }
 
 #[tactic(auto, unfolding(crate::specs::Image::command_list_in))]
-fn command_list_in(image: &[u8]) -> CommandList
-    requires { length image.now ≡ image_bytes }
+fn command_list_in(image: &Image) -> CommandList
     ensures { result ≡ command_list_in image.now }
 {
     CommandList {
@@ -141,8 +132,7 @@ fn command_list_in(image: &[u8]) -> CommandList
 // The state that an image is. An entry that is no command reads as some command: `judge::is_state` tells them apart.
 // The capacity is not among the bytes.
 #[tactic(auto, unfolding(crate::specs::Image::state_of))]
-pub fn decode(image: &[u8]) -> State
-    requires { length image.now ≡ image_bytes }
+pub fn decode(image: &Image) -> State
     ensures { result ≡ state_of image.now }
 {
     State {

@@ -1,14 +1,13 @@
 // The image of a state.
 ghost use Rattle.std.specs.Prelude.{◌≡◌, ◌+◌, ◌*◌, ◌≤◌, ◌<◌, length};
 ghost use Rattle.wire.specs.Bytes.{put};
-ghost use Rattle.image.specs.Layout.{image_bytes, taken_at, boxes_at, readings_at, limhi_at, accepted_at};
-ghost use Rattle.image.specs.Image.{six, two, command_list_bytes, command_bytes, commands_bytes, low, flags_of, settings_image};
+ghost use Rattle.image.specs.Layout.{taken_at, boxes_at, readings_at, limhi_at, accepted_at};
+ghost use Rattle.image.specs.Image.{six, two, command_list_bytes, command_bytes, commands_bytes, low, settings_image};
 ghost use Rattle.image.specs.Image.{counts_bytes, readings_bytes, interval_bytes, image_of};
 
 use crate::layout::{
-    ACCEPTED_AT, BEACONS_AT, BOXES_AT, ENTRIES_AT, ENTRY_BYTES, EONLY_FLAG, FLAGS_AT, FRAME_AT,
-    HV_FLAG, HVSTEP_AT, JUNK_FLAG, LIMHI_AT, LOAD_KIND, NEXT_AT, READINGS_AT, TAKEN_AT,
-    TOFERROR_FLAG, TOTALS_AT, USED_AT,
+    ACCEPTED_AT, BEACONS_AT, BOXES_AT, ENTRIES_AT, ENTRY_BYTES, FLAGS_AT, FRAME_AT, HVSTEP_AT,
+    Image, LIMHI_AT, LOAD_KIND, NEXT_AT, READINGS_AT, TAKEN_AT, TOTALS_AT, USED_AT,
 };
 use command::command::Command;
 use command_list::{CommandList, Waiting};
@@ -16,7 +15,6 @@ use counts::Counts;
 use settings::Settings;
 use state::State;
 use state::interval::Interval;
-use wire::bits::bit;
 use wire::number::BigEndian;
 use wire::write::put_words;
 
@@ -27,6 +25,8 @@ fn low(n: usize) -> u32
     (n % 4294967296) as u32
 }
 
+// The six bytes of an entry, by their place in the image: the library's `as_chunks_mut` says nothing of what it leaves.
+#[tactic(auto, using(wire::proofs::Bytes::put_put))]
 fn put_six(image: &mut [u8], at: usize, kind: u8, value: u32, y: u8)
     requires { at + 6 ≤ length image.old }
     ensures { image.new ≡ put image.old at (six kind value y) }
@@ -36,6 +36,7 @@ fn put_six(image: &mut [u8], at: usize, kind: u8, value: u32, y: u8)
     y.put(image, at + 5);
 }
 
+#[tactic(auto, using(wire::proofs::Bytes::put_put))]
 fn put_two(image: &mut [u8], at: usize, a: u32, b: u32)
     requires { at + 8 ≤ length image.old }
     ensures { image.new ≡ put image.old at (two a b) }
@@ -69,42 +70,33 @@ fn put_commands(image: &mut [u8], at: usize, waiting: &[Waiting; 32])
     }
 }
 
-fn flags_of(s: Settings) -> u8
-    ensures { result ≡ flags_of s }
-{
-    HV_FLAG * bit(s.hv)
-        + EONLY_FLAG * bit(s.eonly)
-        + TOFERROR_FLAG * bit(s.toferror)
-        + JUNK_FLAG * bit(s.junk)
-}
-
-fn put_settings(image: &mut [u8], s: Settings)
-    requires { length image.old ≡ image_bytes }
+#[tactic(auto, using(wire::proofs::Bytes::put_put))]
+fn put_settings(image: &mut Image, s: Settings)
     ensures { image.new ≡ put image.old limhi_at (settings_image s) }
 {
     s.limhi.put(image, LIMHI_AT);
-    flags_of(s).put(image, FLAGS_AT);
+    s.flags().put(image, FLAGS_AT);
     s.hvstep.put(image, HVSTEP_AT);
 }
 
-fn put_counts(image: &mut [u8], c: &Counts)
-    requires { length image.old ≡ image_bytes }
+#[tactic(auto, using(wire::proofs::Bytes::put_put, wire::proofs::Bytes::length_words))]
+fn put_counts(image: &mut Image, c: &Counts)
     ensures { image.new ≡ put image.old boxes_at (counts_bytes c.now) }
 {
     put_words(image, BOXES_AT, &c.boxes);
     put_words(image, BEACONS_AT, &c.beacons);
 }
 
-fn put_readings(image: &mut [u8], readings: u32, totals: &[u32; 8])
-    requires { length image.old ≡ image_bytes }
+#[tactic(auto, using(wire::proofs::Bytes::put_put))]
+fn put_readings(image: &mut Image, readings: u32, totals: &[u32; 8])
     ensures { image.new ≡ put image.old readings_at (readings_bytes readings totals.now) }
 {
     readings.put(image, READINGS_AT);
     put_words(image, TOTALS_AT, totals);
 }
 
-fn put_interval(image: &mut [u8], i: Interval)
-    requires { length image.old ≡ image_bytes }
+#[tactic(auto, using(wire::proofs::Bytes::put_put, crate::proofs::Lengths::length_to_counts, crate::proofs::Lengths::length_to_use))]
+fn put_interval(image: &mut Image, i: Interval)
     ensures { image.new ≡ put image.old taken_at (interval_bytes i) }
 {
     i.taken.put(image, TAKEN_AT);
@@ -113,8 +105,8 @@ fn put_interval(image: &mut [u8], i: Interval)
     put_readings(image, i.readings, &i.totals);
 }
 
-fn put_command_list(image: &mut [u8], o: &CommandList)
-    requires { length image.old ≡ image_bytes }
+#[tactic(auto, using(wire::proofs::Bytes::put_put))]
+fn put_command_list(image: &mut Image, o: &CommandList)
     ensures { image.new ≡ put image.old accepted_at (command_list_bytes o.now) }
 {
     put_two(image, ACCEPTED_AT, low(o.accepted), low(o.waiters));
@@ -122,8 +114,7 @@ fn put_command_list(image: &mut [u8], o: &CommandList)
 }
 
 // The image of a state, whatever the image was.
-pub fn encode(image: &mut [u8], s: State)
-    requires { length image.old ≡ image_bytes }
+pub fn encode(image: &mut Image, s: State)
     ensures { image.new ≡ image_of s }
 {
     s.frame.put(image, FRAME_AT);

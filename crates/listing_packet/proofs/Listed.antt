@@ -1,12 +1,7 @@
 -- A gatherer accepts every listing packet that is written, and finds in it its place and its words of the tables. Assumes nothing.
-use mathlib.Core.Path.{◌≡◌, refl, sym, ap, ◌∙◌}
-use mathlib.Core.Bool.{true}
-use mathlib.Core.List.{List, ◌++◌, append_assoc}
-use Prim.Native.Nat.{ℕ, ◌+◌, ◌-◌, ◌*◌, ◌%◌, ◌<◌}
-use native.Mathlib.Omega.{arith}
-use lib.ListN.{length, take, drop, get_or, length-append, get_or-replicate}
-use lib.Seq.{take_at, drop_at}
-use borrow.Author.Tests.{lt-ltb, eq-eqb}
+use Rattle.std.proofs.Common.{◌≡◌, refl, sym, ap, ◌∙◌, true, List, ◌++◌, append_assoc, ℕ, ◌+◌, ◌-◌, ◌*◌, ◌%◌, ◌<◌, arith, length}
+use Rattle.std.proofs.Common.{take, drop, get_or, length-append, take_at, drop_at, lt-ltb, eq-eqb}
+use Rattle.std.proofs.Math.ListN.{get_or-replicate}
 use Rattle.wire.specs.Bytes.{one, be16, be24, total, zeros}
 use Rattle.wire.specs.Pieces.{padded}
 use Rattle.wire.proofs.Bytes.{value24}

@@ -1,13 +1,7 @@
 -- The lengths of a listing packet's parts, that its words put one behind the other are its piece, and what an address says. Assumes nothing.
-use mathlib.Core.Path.{◌≡◌, refl, ap, ◌∙◌}
-use mathlib.Core.Bool.{true, false}
-use mathlib.Core.Logic.{◌⊎◌, inl, inr}
-use mathlib.Core.List.{List, ◌++◌}
-use Prim.Native.Nat.{ℕ, ◌+◌, ◌-◌, ◌*◌, ◌≤◌, ◌<◌}
-use native.Mathlib.Omega.{arith}
-use lib.ListN.{length, take, drop, length-append, length-replicate}
-use lib.Dec.{ltb}
-use borrow.Author.Tests.{ltb-true, eqb-true}
+use Rattle.std.proofs.Common.{◌≡◌, refl, ap, ◌∙◌, true, false, ◌⊎◌, inl, inr, List, ◌++◌, ℕ, ◌+◌, ◌-◌, ◌*◌, ◌≤◌, ◌<◌, arith, length}
+use Rattle.std.proofs.Common.{take, drop, length-append, ltb, ltb-true, eqb-true}
+use Rattle.std.proofs.Math.ListN.{length-replicate}
 use Rattle.wire.specs.Bytes.{put, zeros}
 use Rattle.wire.specs.Pieces.{padded}
 use Rattle.wire.proofs.Bytes.{then, length_part}

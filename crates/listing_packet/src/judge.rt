@@ -17,6 +17,8 @@ use wire::read::u24_at;
 pub struct Listed<'a> {
     pub packet: &'a [u8; PACKET_BYTES],
     pub place: usize,
+    ghost place_is: { place ≡ place_in packet.now },
+    ghost place_fits: { place < listing_packets },
 }
 
 // Which of the 250 has the packet's address, if one of them has.
@@ -52,7 +54,7 @@ fn rest_zero(packet: &[u8; PACKET_BYTES], place: usize) -> bool
 #[tactic(auto, unfolding(crate::specs::Listing::gather_number, crate::specs::Listing::listing_header))]
 pub fn judge(packet: &[u8], tables: usize) -> Result<Listed<'_>, Cause>
     ensures number { call_number result ≡ gather_number tables packet.now }
-    ensures listed { IfOk result (λ l. (l.packet.now ≡ packet.now) × (l.place ≡ place_in packet.now) × (l.place < listing_packets)) }
+    ensures packet { IfOk result (λ l. l.packet.now ≡ packet.now) }
 {
     check(tables == tables::TABLE_BYTES, Cause::BufferOrState)?;
     let Ok(packet) = <&[u8; PACKET_BYTES]>::try_from(packet) else {

@@ -1,14 +1,11 @@
 -- The bitmap tells, after a package, its own bytes by its sum and all others as before. Assumes nothing.
-use mathlib.Core.Path.{◌≡◌, refl, sym, ap, ◌∙◌}
-use mathlib.Core.Bool.{Bool, true, false, ◌&&◌, not, cond}
-use mathlib.Core.List.{List, [], ◌∷◌, ◌++◌}
-use Prim.Native.Nat.{ℕ, zero, suc, ◌+◌, ◌*◌, ◌/◌, ◌%◌, ◌≤◌, ◌<◌}
-use native.Mathlib.Omega.{arith}
-use native.Mathlib.Numerals.{add-one}
-use borrow.Author.Tests.{eqb-true, eqb-false, eq-eqb, ne_eqb, le-leb, lt-ltb, le-ltb, leb-true, ltb-true, ltb-false}
-use lib.Dec.{eqb, leb, ltb}
-use lib.ListN.{length, get_or, set, length-set, replicate, length-replicate, replicate-append-replicate}
-use lib.Seq.{get_or-set_same, get_or-set_other, set-get_or, set-set}
+use Rattle.std.proofs.Common.{◌≡◌, refl, sym, ap, ◌∙◌, Bool, true, false, ◌&&◌, not, cond, List, [], ◌∷◌, ◌++◌, ℕ, zero, suc, ◌+◌}
+use Rattle.std.proofs.Common.{◌*◌, ◌/◌, ◌%◌, ◌≤◌, ◌<◌, arith, add-one, eqb-true, eq-eqb, ne_eqb, le-leb, lt-ltb, le-ltb, leb-true}
+use Rattle.std.proofs.Common.{ltb-true, ltb-false, eqb, leb, ltb, length, get_or, set, length-set, replicate, get_or-set_same}
+use Rattle.std.proofs.Common.{get_or-set_other, set-set}
+use borrow.Author.Tests.{eqb-false}
+use Rattle.std.proofs.Math.ListN.{length-replicate, replicate-append-replicate}
+use Rattle.std.proofs.Math.Seq.{set-get_or}
 use Rattle.wire.specs.Bits.{bit_at, with_bit}
 use Rattle.wire.specs.Bytes.{put}
 use Rattle.wire.specs.Lists.{EachBelow}

@@ -1,22 +1,17 @@
 -- Laws of loads. Assumes nothing.
-use mathlib.Core.Path.{◌≡◌, refl, sym, ap, subst, ◌∙◌}
-use mathlib.Core.Bool.{true, false, ◌&&◌}
-use mathlib.Core.List.{List, [], ◌∷◌, ◌++◌, append-nil}
-use Prim.Native.Nat.{ℕ, zero, suc, ◌+◌, ◌-◌, ◌*◌, ◌/◌, ◌%◌, ◌≤◌, ◌<◌}
-use native.Mathlib.Omega.{arith}
-use native.Mathlib.Numerals.{add-one}
-use lib.Dec.{leb}
-use lib.ListN.{length, take, drop, get_or, length-append, length-take, length-replicate}
-use lib.Seq.{length-take-le, take-add, drop-cons}
-use borrow.Author.Tests.{leb-true, lt-leb}
+use Rattle.std.proofs.Common.{◌≡◌, refl, sym, ap, subst, ◌∙◌, true, false, ◌&&◌, List, [], ◌∷◌, ◌++◌, append-nil, ℕ, zero, suc, ◌+◌}
+use Rattle.std.proofs.Common.{◌-◌, ◌*◌, ◌/◌, ◌%◌, ◌≤◌, ◌<◌, arith, add-one, leb, length, take, drop, get_or, length-append}
+use Rattle.std.proofs.Common.{length-take, length-take-le, take-add, take-take, drop-cons, leb-true, Some, None}
+use borrow.Author.Tests.{lt-leb}
+use Rattle.std.proofs.Math.ListN.{length-replicate}
+use Rattle.std.specs.Simd.{first_chunks}
 use Rattle.wire.specs.Bytes.{zeros, put, be24}
 use Rattle.wire.specs.Pieces.{padded}
-use Rattle.wire.proofs.Bytes.{length_put, length_part, then}
+use Rattle.wire.proofs.Bytes.{length_put, length_part, then, chunk_at}
 use Rattle.wire.proofs.Lists.{and_left, and_right}
 use Rattle.wire.proofs.Pieces.{length_padded, padded_is}
 use Rattle.tables.specs.Tables.{first, end, table_bytes, byte_of}
 use Rattle.load.specs.Staging.{staging_bytes}
-use Rattle.std.specs.Prelude.{Some, None}
 use Rattle.std.proofs.lemmas.Option.{same_Some}
 use Rattle.load.specs.declared.words.Packing.{Packing}
 use Rattle.load.specs.declared.words.Packing.TheVariants.{ThreeBytes, OneByte, TwoBytes}
@@ -47,12 +42,6 @@ pub width_small : (y : ℕ) → word_width y ≤ 3
 width_small zero = omega arith
 width_small (suc zero) = omega arith
 width_small (suc (suc y)) = omega arith
-
--- no more words than bytes
-pub words_few : (y n : ℕ) → load_words y n ≤ n
-words_few zero n = omega arith
-words_few (suc zero) n = omega arith
-words_few (suc (suc y)) n = omega arith
 
 -- some bytes make some words
 pub words_some : (y n : ℕ) → 1 ≤ n → 1 ≤ load_words y n
@@ -189,6 +178,25 @@ word_two w bytes k x y e =
     let P : ℕ → Type 0 = λ w. w * k + w ≤ length bytes → x ≡ get_or bytes (w * k) 0 → y ≡ get_or bytes (w * k + 1) 0 → x < 256 → y < 256
     → be24 (256 * x + y) ≡ packed_word w bytes k in
     subst P (sym e) (λ h f g s t. packed_two_bytes bytes k x y (omega arith) f g s t)
+
+-- ---- words by chunks
+
+chunk_within : (w n k : ℕ) → 1 ≤ w → w ≤ 2 → k < n / w → w * k + w ≤ n
+chunk_within zero n k a b h = absurd (omega arith)
+chunk_within (suc zero) n k a b h = omega arith
+chunk_within (suc (suc zero)) n k a b h = omega arith
+chunk_within (suc (suc (suc w))) n k a b h = absurd (omega arith)
+
+-- a chunk has a word's length, and its word is that of all the bytes
+pub chunk_word : (w : ℕ) (xs : List ℕ) (k : ℕ) (chunks : List (List ℕ)) (r : List ℕ) → chunks ≡ first_chunks w (length xs / w) xs
+    → r ≡ get_or chunks k r → 1 ≤ w → w ≤ 2 → k < length xs / w → (length r ≡ w) × (packed_word w r 0 ≡ packed_word w xs k)
+chunk_word w xs k chunks r f is a b h =
+    let e : r ≡ take w (drop (w * k) xs) =
+    is ∙ ap (λ (cs : List (List ℕ)). get_or cs k r) f ∙ chunk_at w (length xs / w) k xs r h in
+    let z : w * 0 ≡ 0 = omega arith in (
+      ap length e ∙ length_part xs (w * k) w (chunk_within w (length xs) k a b h),
+      rw (z, e) (ap (λ (p : List ℕ). zeros (3 - w) ++ padded w p) (take-take w w (drop (w * k) xs) (omega arith))),
+    )
 
 -- the words that n bytes fill: at most one more takes the rest
 pub words_whole : (y n : ℕ) → (n / word_width y ≤ load_words y n) × (load_words y n ≤ n / word_width y + 1) × (word_width y * (n / word_width y) ≤ n)

@@ -1,17 +1,10 @@
 -- What the checks of a load package say, and that a staged package keeps staging's length and addresses. Assumes nothing.
-use mathlib.Core.Path.{◌≡◌, refl, sym, ◌∙◌}
-use mathlib.Core.Bool.{Bool, true, false, ◌&&◌, cond}
-use mathlib.Core.List.{List}
-use Prim.Native.Nat.{ℕ, ◌+◌, ◌≤◌}
-use native.Mathlib.Omega.{arith}
-use lib.Dec.{leb, eqb}
-use lib.ListN.{length}
-use borrow.Author.Tests.{leb-true, le-leb, eqb-true}
+use Rattle.std.proofs.Common.{◌≡◌, refl, sym, ◌∙◌, Bool, true, false, ◌&&◌, cond, List, ℕ, ◌+◌, ◌≤◌, arith, leb, eqb, length, leb-true, le-leb, eqb-true}
 use Rattle.wire.proofs.Bytes.{length_part, length_put}
 use Rattle.wire.proofs.Lists.{and_left, and_right, and_split}
 use Rattle.causes.specs.Causes.{carried_out, package_form, past_staging, package_sum}
-use Rattle.load.specs.Staging.{staging_bytes, count_field, payload_bytes, payload, received_sum, computed_sum, formed, fits, placeable}
-use Rattle.load.specs.Staging.{package_number, staging_after, addresses_after, fresh_addresses, addresses_within}
+use Rattle.load.specs.Staging.{staging_bytes, count_field, payload_bytes, payload, formed, fits, placeable}
+use Rattle.load.specs.Staging.{staging_after, addresses_after, fresh_addresses, addresses_within}
 use Rattle.load.specs.declared.staging.Addresses.{Addresses}
 
 -- what a well formed package is
@@ -39,9 +32,6 @@ placeable_formed p next h = and_left (formed p) (fits p next) h
 pub placeable_fits : (p : List ℕ) (next : ℕ) → placeable p next ≡ true → next + payload_bytes p ≤ staging_bytes
 placeable_fits p next h = leb-true (next + payload_bytes p) staging_bytes (and_right (formed p) (fits p next) h)
 
-pub placeable_within : (p : List ℕ) (next : ℕ) → placeable p next ≡ true → fits p next ≡ true
-placeable_within p next h = and_right (formed p) (fits p next) h
-
 pub fits_room : (p : List ℕ) (next : ℕ) → fits p next ≡ true → next + payload_bytes p ≤ staging_bytes
 fits_room p next h = leb-true (next + payload_bytes p) staging_bytes h
 
@@ -51,12 +41,6 @@ number_by_lem : (a b c : Bool) (k : ℕ) → cond a (cond b (cond c carried_out 
 number_by_lem true true c k e n8 n9 = refl
 number_by_lem true false c k e n8 n9 = absurd (n9 (sym e))
 number_by_lem false b c k e n8 n9 = absurd (n8 (sym e))
-
-pub number_placeable : (p : List ℕ) (next : ℕ) → (package_number p next ≡ package_form → ⊥) → (package_number p next ≡ past_staging → ⊥)
-    → placeable p next ≡ true
-unfolding package_number
-number_placeable p next n8 n9 =
-    number_by_lem (formed p) (fits p next) (eqb (received_sum p) (computed_sum p)) (package_number p next) refl n8 n9
 
 -- staging keeps its length
 pub length_staging_after : (staging p : List ℕ) (next : ℕ) → length staging ≡ staging_bytes → placeable p next ≡ true

@@ -1,5 +1,5 @@
 // Load packages: a 16-bit count, the bytes that they bring, and their sum.
-ghost use Rattle.std.specs.Prelude.{◌≡◌, ◌<◌, true, false, length, MatchResult};
+ghost use Rattle.std.specs.Prelude.{◌≡◌, ◌<◌, true, false, eqb, length, MatchResult};
 ghost use Rattle.causes.specs.Causes.{call_number};
 ghost use Rattle.causes.specs.declared.Cause.TheVariants.{PackageForm};
 ghost use Rattle.load.specs.Staging.{payload_bytes, payload, received_sum, computed_sum, count_field, formed, fits, package_number};
@@ -72,6 +72,13 @@ impl<'a> Package<'a> {
         (long_sum(self.payload()) % 65536) as u16
     }
 
+    // Whether its bytes have the sum that came.
+    pub fn sum_right(&self) -> bool
+        ensures { result ≡ eqb (received_sum self.now.bytes.now) (computed_sum self.now.bytes.now) }
+    {
+        self.received_sum() == self.computed_sum()
+    }
+
     // Whether it stays within staging from the next address on.
     pub fn fits(&self, next: u32) -> bool
         ensures { result ≡ fits self.now.bytes.now next }
@@ -87,8 +94,5 @@ pub fn judge(bytes: &[u8], next: u32) -> Result<(), Cause>
 {
     let package = Package::parse(bytes)?;
     check(package.fits(next), Cause::PastStaging)?;
-    check(
-        package.received_sum() == package.computed_sum(),
-        Cause::PackageSum,
-    )
+    check(package.sum_right(), Cause::PackageSum)
 }

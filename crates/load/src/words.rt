@@ -11,7 +11,8 @@ pub enum Packing {
 }
 
 impl Packing {
-    // The way to pack that y stands for.
+    // The way to pack that y stands for. No `TryFrom`: the language gives each `From` one that never
+    // fails, and `From` takes any y.
     pub fn of(y: u8) -> Option<Packing>
         ensures { result ≡ packing_of y }
     {
@@ -40,6 +41,15 @@ impl Packing {
     {
         let width = self.width();
         (reach as usize + (width - 1)) / width
+    }
+}
+
+impl From<u8> for Packing {
+    ghost from_gives = { λ y packing. word_width (packing_number packing) ≡ word_width y };
+
+    // The way to pack of any y: one above 2 stands for two bytes, as in the definitions, and no load that has it is lawful.
+    fn from(y: u8) -> Packing {
+        Packing::of(y).unwrap_or(Packing::TwoBytes)
     }
 }
 

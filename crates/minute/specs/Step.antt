@@ -3,14 +3,11 @@ use Rattle.std.specs.Prelude.{List, ◌≡◌, ℕ, length, Option, Some, None, 
 use Rattle.state.specs.declared.State.{State}
 use Rattle.stream.specs.Kind.{kind_number}
 use Rattle.stream.specs.Record.{body_in}
+use Rattle.stream.specs.Run.{Used}
 use Rattle.stream.specs.declared.kind.BadRecord.{BadRecord}
 use Rattle.stream.specs.declared.record.Record.{Record}
 use Rattle.minute_calls.specs.Calls.{kind_done}
 use Rattle.minute_calls.specs.Events.{EventsRun, NoEvent}
-
--- what a step hands back: how many bytes it used, none at the end of the input, or a bad record
-abbrev pub Used : Type 0
-Used = Result (Option ℕ) BadRecord
 
 -- from state s, tables and slots to those of the step. The end and a bad record change nothing and are the last. An event
 -- is carried out with all events behind it; any other record alone, and the program goes on behind it

@@ -10,6 +10,7 @@ use minute_calls::records;
 use stream::kind::{BadRecord, Kind};
 use stream::record::Next;
 use stream::run::{Program, run};
+use stream::session::Session;
 use stream::start::{SLOTS, fresh};
 use tables::TABLE_BYTES;
 
@@ -24,10 +25,10 @@ impl<'a> Program for Minute<'a> {
 
     ghost lies = { LiesIn };
 
-    fn next(input: &mut Input, text: &mut Text) -> Next
-        ensures { LiesIn result input.new }
+    fn next(session: &mut Session) -> Next
+        ensures { LiesIn result session.new.input }
     {
-        records::next(input, text)
+        records::next(session)
     }
 
     fn step(
@@ -56,6 +57,7 @@ impl<'a> Program for Minute<'a> {
     }
 }
 
+// Not one with replay's: it lends a bitmap and an echo too, and an array lives where `main` makes it.
 fn main(rt: HostRuntime) {
     let mut tables = [0u8; TABLE_BYTES];
     if !read_tables(&rt, &mut tables) {
@@ -72,9 +74,9 @@ fn main(rt: HostRuntime) {
         staging: &staging,
         slots: &mut slots,
     });
-    run(
-        &mut minute,
-        &mut Input::new(&mut buffer),
-        &mut Text::new(&rt, &mut text),
-    );
+    let mut session = Session {
+        input: Input::new(&mut buffer),
+        text: Text::new(&rt, &mut text),
+    };
+    run(&mut minute, &mut session);
 }

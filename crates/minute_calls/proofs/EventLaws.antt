@@ -1,11 +1,7 @@
 -- One more event record leads on from the state and slots of those before it. Assumes nothing.
-use mathlib.Core.Path.{◌≡◌, refl, ap, ◌∙◌}
-use mathlib.Core.List.{List}
-use mathlib.Core.Logic.{⊎_elim}
-use Prim.Native.Nat.{ℕ, suc, ◌+◌}
-use native.Mathlib.Nat.{eq-or-lt_of_le, not-suc-le-zero}
-use native.Mathlib.Omega.{arith}
-use lib.ListN.{get_or, take, drop}
+use Rattle.std.proofs.Common.{◌≡◌, refl, ap, ◌∙◌, List, ℕ, suc, ◌+◌, get_or, take, drop, arith}
+use Rattle.std.proofs.Math.Logic.{⊎_elim}
+use Rattle.std.proofs.Math.Nat.{eq-or-lt_of_le, not-suc-le-zero}
 use Rattle.state.specs.declared.State.{State}
 use Rattle.stream.specs.Record.{record_done}
 use Rattle.minute_calls.specs.Events.{body_of, ran_of, EventsRun}

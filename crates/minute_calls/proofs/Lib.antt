@@ -1,3 +1,2 @@
--- Laws of records, which minute's proofs cite too, and of events in a row.
-pub mod RecordLaws
+-- Laws of events in a row.
 mod EventLaws

@@ -19,16 +19,15 @@ use echo::ECHO_BYTES;
 use load::bitmap::BITMAP_BYTES;
 use output::Summary;
 use state::State;
-use stream::kind::Kind;
-use stream::record::{EVENT_BYTES, event, reading};
+use stream::kind::{EVENT_BYTES, Kind};
+use stream::record::{close, event, reading};
 use stream::start::OUT_BYTES;
-use wire::number::BigEndian;
 use wire::words::length_before;
 
 // A kind byte and an event.
 const EVENT_RECORD: usize = 1 + EVENT_BYTES;
 
-// What the calls work on: the state, and the buffers that they are lent.
+// What the calls work on: the state, and the buffers that they are lent. Replay's has two more, and writes to staging.
 #[derive(Drop)]
 pub struct Aboard<'a> {
     pub state: State,
@@ -98,22 +97,21 @@ impl<'a> Aboard<'a> {
             ≡ (close_done self.old.state (at32 body.now 0) self.old.tables.now self.old.staging.now self.old.slots.now
             (zeros out_bytes)).slots }
     {
-        let time = u32::read(body, 0);
         let frame = self.state.frame;
         let mut packets = [0u8; OUT_BYTES];
-        let ended = processor::close::close(
+        let ended = close(
             &mut self.state,
-            time,
             self.tables,
             self.staging,
             self.slots,
+            body,
             &mut packets,
         )?;
         print_closed(text, frame, ended);
         Ok(())
     }
 
-    // One record that is no event.
+    // One record that is no event: a `match`, since each kind's call takes other parts of these.
     #[tactic(auto, unfolding(crate::specs::Calls::kind_done))]
     pub fn carry_out(&mut self, kind: Kind, body: &[u8], text: &mut Text) -> Result<(), Cause>
         requires { LongAs (kind_number kind) (length body.now) }
@@ -148,6 +146,7 @@ impl<'a> Aboard<'a> {
 
 // The same of a state and buffers, lent each by itself, as the check covers it. The place in the bytes that wait is counted,
 // since it is what is handed back: chunks would need it beside them.
+#[tactic(auto, using(crate::proofs::EventLaws::events_none, crate::proofs::EventLaws::events_more))]
 fn run_events(
     state: &mut State,
     tables: &mut [u8],
@@ -162,6 +161,7 @@ fn run_events(
 {
     let mut used = 0;
     while EVENT_RECORD <= waiting.len() - used {
+        // The byte as it is: each event begins with it.
         if waiting[used] != Kind::Event as u8 {
             return used;
         }

@@ -1,13 +1,7 @@
 -- The packets fill the output, each stands in its place, and what the limits hold has a rate code. Assumes nothing.
-use mathlib.Core.Path.{◌≡◌, refl, sym, ap, ◌∙◌}
-use mathlib.Core.Bool.{true}
-use mathlib.Core.List.{List, [], ◌++◌, append_assoc, append-nil}
-use Prim.Native.Nat.{ℕ, zero, suc, ◌+◌, ◌*◌, ◌≤◌, ◌<◌}
-use native.Mathlib.Omega.{arith}
-use borrow.Author.Tests.{eqb-true, eqb-false}
-use lib.Dec.{eqb}
-use lib.ListN.{length, take, drop, length-append}
-use lib.Seq.{drop_at, take_at}
+use Rattle.std.proofs.Common.{◌≡◌, refl, sym, ap, ◌∙◌, true, List, [], ◌++◌, append_assoc, append-nil, ℕ, zero, suc, ◌+◌, ◌*◌, ◌≤◌}
+use Rattle.std.proofs.Common.{◌<◌, arith, eqb-true, eqb, length, take, drop, length-append, drop_at, take_at}
+use borrow.Author.Tests.{eqb-false}
 use Rattle.wire.specs.Bytes.{words}
 use Rattle.wire.specs.Lists.{EachBelow}
 use Rattle.wire.proofs.Bytes.{length_part, length_words}

@@ -3,7 +3,6 @@
 
 ghost use Rattle.std.specs.Prelude.{◌≡◌, true, ◌+◌, ◌*◌, ◌≤◌, ◌<◌, length};
 ghost use Rattle.wire.specs.Bytes.{put};
-ghost use Rattle.tables.specs.Tables.{table_bytes};
 ghost use Rattle.packet.specs.Packet.{packet_bytes};
 ghost use Rattle.state.specs.Limits.{within_limits};
 ghost use Rattle.output.specs.Ended.{ended_in};
@@ -14,8 +13,9 @@ use counts::Counts;
 use packet::layout::{PACKET_BYTES, RECORDS};
 use packet::stamp::stamp_of;
 use packet::write::{RateBody, write_beacon, write_rate};
-use rate_code::editions::SECOND_MARK;
+use rate_code::editions::Mark;
 use state::State;
+use tables::Tables;
 
 // What a close returns of the interval that it ended.
 #[derive(Clone, Copy)]
@@ -49,7 +49,8 @@ pub fn span_bytes(s: Span) -> usize
     PACKET_BYTES * (usize::from(s.many) + 2)
 }
 
-// The sample packets, the first of them into the second part.
+// The sample packets, the first of them into the second part. By a number: parts, slots and p by elements are three iterators,
+// which zipped would stop at the shortest without a word.
 fn write_samples(out: &mut [u8], frame: u16, time: u32, slots: &[u32], s: Span)
     requires { (length out.old ≡ span_bytes s) × (64 * s.many ≤ length slots.now) × (s.first + s.many < 256) }
     ensures { out.new
@@ -66,14 +67,23 @@ fn write_samples(out: &mut [u8], frame: u16, time: u32, slots: &[u32], s: Span)
     }
 }
 
-// The packets of the state's interval, which ends at this time with these tables and slots.
-pub fn write_packets(s: &State, time: u32, tables: &[u8], slots: &[u32], span: Span, out: &mut [u8])
-    requires s_value { (within_limits s.now ≡ true) × (length tables.now ≡ table_bytes) × (length out.old ≡ span_bytes span) }
+// The packets of the state's interval, which ends at this time with these tables and slots. Any state may be lent, so that its limits
+// are judged before and are no invariant; so it is in the other crates of a call.
+pub fn write_packets(
+    s: &State,
+    time: u32,
+    tables: &Tables,
+    slots: &[u32],
+    span: Span,
+    out: &mut [u8],
+)
+    requires s_value { (within_limits s.now ≡ true) × (length out.old ≡ span_bytes span) }
     requires many_in_bounds { (64 * span.many ≤ length slots.now) × (span.first + span.many < 256) }
     ensures { out.new ≡ written (ended_in s.now time tables.now slots.now) span }
 {
     let sum = packet::table_sum::table_sum(tables);
-    let stamp = stamp_of(s.frame, time, SECOND_MARK);
+    // `as`: by `number` the proof did not close.
+    let stamp = stamp_of(s.frame, time, Mark::Second as u8);
     let body = RateBody {
         totals: &s.interval.totals,
         boxes: &s.interval.counts.boxes,

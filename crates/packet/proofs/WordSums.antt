@@ -1,14 +1,11 @@
 -- Sums of words: one word more, two runs, and the words of columns to which a row was added. Assumes nothing.
-use mathlib.Core.Path.{◌≡◌, refl, sym, ap, ◌∙◌}
-use mathlib.Core.List.{List}
-use Prim.Native.Nat.{ℕ, zero, suc, ◌+◌, ◌-◌, ◌*◌, ◌≤◌, ◌<◌}
-use native.Mathlib.Omega.{arith}
-use native.Mathlib.Nat.{add_assoc}
-use native.Mathlib.Numerals.{add-one}
-use lib.ListN.{length, get_or, replicate}
+use Rattle.std.proofs.Common.{◌≡◌, refl, sym, ap, ◌∙◌, List, [], ℕ, zero, suc, ◌+◌, ◌-◌, ◌*◌, ◌≤◌, ◌<◌, arith, add_assoc, add-one, length, drop, get_or, replicate, get_or-drop}
+use Rattle.std.specs.Simd.{first_chunks}
+use Rattle.std.proofs.lemmas.List.{get_or-take}
 use Rattle.wire.specs.Lists.{EachBelow}
 use Rattle.wire.specs.Bytes.{at24, total}
 use Rattle.wire.specs.Pieces.{table}
+use Rattle.wire.proofs.Bytes.{chunk_at}
 use Rattle.wire.proofs.Lists.{all_at, each_zeros}
 use Rattle.wire.proofs.Pieces.{table_at, table_most, length_table, same_table, total_more}
 use Rattle.tables.specs.Tables.{first, word_at}
@@ -51,6 +48,36 @@ unfolding word_sum
 words_by_address tables n =
     ap total (same_table n (λ i. word_at tables (first + i)) (λ i. at24 tables (0 + 3 * i))
     (λ i l. let k : 3 * (first + i - first) ≡ 0 + 3 * i = omega arith in ap (at24 tables) k))
+
+-- ---- words by chunks
+
+pub chunk_get : (n k i : ℕ) (xs : List ℕ) (cs : List (List ℕ)) → cs ≡ first_chunks n k xs → i < k → (j p : ℕ) → j < n → n * i + j ≡ p
+    → get_or (get_or cs i []) j 0 ≡ get_or xs p 0
+chunk_get n k i xs cs e h j p l q =
+    ap (λ (c : List (List ℕ)). get_or (get_or c i []) j 0) e
+    ∙ ap (λ (c : List ℕ). get_or c j 0) (chunk_at n k i xs [] h)
+    ∙ get_or-take n (drop (n * i) xs) j 0 l
+    ∙ get_or-drop (n * i) xs j 0
+    ∙ ap (λ (m : ℕ). get_or xs m 0) q
+
+-- a chunk's words are those from its place on
+pub chunk_words : (n k i : ℕ) (xs : List ℕ) (cs : List (List ℕ)) → cs ≡ first_chunks n k xs → i < k → (m : ℕ) → 3 * m ≤ n
+    → word_sum (get_or cs i []) 0 m ≡ word_sum xs (n * i) m
+unfolding word_sum
+chunk_words n k i xs cs e h m l =
+    ap total (same_table m (λ j. at24 (get_or cs i []) (0 + 3 * j)) (λ j. at24 xs (n * i + 3 * j))
+    (λ j q.
+    let same : (b : ℕ) → b < 3 → get_or (get_or cs i []) (0 + 3 * j + b) 0 ≡ get_or xs (n * i + 3 * j + b) 0 =
+    λ b s. chunk_get n k i xs cs e h (0 + 3 * j + b) (n * i + 3 * j + b) (omega arith) (omega arith) in
+    let none = chunk_get n k i xs cs e h (0 + 3 * j) (n * i + 3 * j) (omega arith) (omega arith) in
+    omega (arith, none, same 1 (omega arith), same 2 (omega arith))))
+
+-- the words behind the last chunk
+pub word_behind : (m : ℕ) (xs : List ℕ) (at : ℕ) → at24 (drop m xs) at ≡ at24 xs (m + at)
+word_behind m xs at =
+    let s : (b : ℕ) → get_or (drop m xs) (at + b) 0 ≡ get_or xs (m + at + b) 0 =
+    λ b. get_or-drop m xs (at + b) 0 ∙ ap (λ (p : ℕ). get_or xs p 0) (sym (add_assoc m at b)) in
+    omega (arith, get_or-drop m xs at 0, s 1, s 2)
 
 module _ (columns tables : List ℕ) (at : ℕ) where
   -- each column grows by a byte at most

@@ -1,9 +1,6 @@
 -- The packets' lengths, and that header, body, trailer and sum, put one behind the other, are the packet. Assumes nothing.
-use mathlib.Core.Path.{◌≡◌, refl, sym, ap, ◌∙◌}
-use mathlib.Core.List.{List, ◌++◌, append-nil}
-use Prim.Native.Nat.{ℕ, ◌+◌, ◌*◌, ◌%◌, ◌≤◌, ◌<◌}
-use native.Mathlib.Omega.{arith}
-use lib.ListN.{length, take, get_or, length-append, drop_of_length-le}
+use Rattle.std.proofs.Common.{◌≡◌, refl, sym, ap, ◌∙◌, List, ◌++◌, append-nil, ℕ, ◌+◌, ◌*◌, ◌%◌, ◌≤◌, ◌<◌, arith, length, take}
+use Rattle.std.proofs.Common.{get_or, length-append, drop_of_length-le}
 use Rattle.wire.specs.Bytes.{put, one, total, words, be16, zeros}
 use Rattle.wire.proofs.Bytes.{then, take_put, length_put, length_words}
 use Rattle.wire.proofs.Pieces.{runs_append, runs_take, length_runs, length_runs_take}

@@ -1,6 +1,8 @@
 -- Where each part of a packet stands, for its writer and its reader alike (document 01, "Packets"). Assumes nothing.
 use Rattle.std.specs.Prelude.{ℕ, ◌+◌, ◌-◌, ◌*◌}
 use Rattle.boxes.specs.Boxes.{box_count, beacon_count, total_count}
+-- the flags' values in byte 261
+pub use Rattle.settings.specs.Settings.{hv_flag, eonly_flag, toferror_flag, junk_flag}
 
 -- ---- every packet
 
@@ -94,19 +96,6 @@ limhi_at = flags_at + 1
 
 abbrev pub table_sum_at : ℕ
 table_sum_at = limhi_at + 2
-
--- "261 hv 128 + Eonly 64 + toferror 32 + junk 16"
-abbrev pub hv_flag : ℕ
-hv_flag = 128
-
-abbrev pub eonly_flag : ℕ
-eonly_flag = 64
-
-abbrev pub toferror_flag : ℕ
-toferror_flag = 32
-
-abbrev pub junk_flag : ℕ
-junk_flag = 16
 
 -- "packet p (0 to 10) has slots 64p to 64p + 63"
 abbrev pub record_count : ℕ

@@ -1,14 +1,14 @@
 -- The packets as lists of bytes (document 01, "Packets"). Assumes nothing.
 use Rattle.std.specs.Prelude.{ℕ, ◌+◌, ◌*◌, ◌%◌, List, ◌++◌}
-use Rattle.wire.specs.Bits.{bit_of}
 use Rattle.wire.specs.Bytes.{one, zeros, be16, be24, be32, words, total}
 use Rattle.wire.specs.Pieces.{runs}
 use Rattle.settings.specs.declared.Settings.{Settings}
+pub use Rattle.settings.specs.Settings.{settings_flags}
 use Rattle.packet.specs.declared.stamp.Stamp.{Stamp}
 use Rattle.rate_code.specs.Editions.{code_by}
 pub use Rattle.packet.specs.Layout.{packet_bytes}
 use Rattle.packet.specs.Layout.{secondary_flag, sequence_flags, sequence_counts, length_field}
-use Rattle.packet.specs.Layout.{hv_flag, eonly_flag, toferror_flag, junk_flag, beacon_unused}
+use Rattle.packet.specs.Layout.{beacon_unused}
 
 -- "rate (application number 605), samples 606 to 616, beacon 624": sample packet p has 606 + p
 abbrev pub rate_application : ℕ
@@ -61,11 +61,6 @@ packet_of application stamp body = enveloped application stamp.sequence stamp.ti
 -- the codes of the counts, two bytes each, in the mark's edition
 unfoldable pub codes : (mark : ℕ) → List ℕ → List ℕ
 codes mark counts = runs (λ n. be16 (code_by mark n)) counts
-
--- "261 hv 128 + Eonly 64 + toferror 32 + junk 16"
-abbrev pub settings_flags : Settings → ℕ
-settings_flags s =
-    hv_flag * bit_of s.hv + eonly_flag * bit_of s.eonly + toferror_flag * bit_of s.toferror + junk_flag * bit_of s.junk
 
 -- 259 is zero; "260 hvstep, 261 [flags], 262-263 LIMHI, 264-266 sum of all table words modulo 2^24"
 unfoldable pub settings_bytes : Settings → (sum : ℕ) → List ℕ

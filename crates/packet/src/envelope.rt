@@ -7,7 +7,9 @@ ghost use Rattle.packet.specs.Packet.{header, summed};
 use crate::layout;
 use wire::number::BigEndian;
 
-// A packet's first eleven bytes.
+// A packet's first eleven bytes. The part is one of an output of several packets: as an array each caller would need a case for a
+// part of another length, and `as_chunks_mut` says nothing of what the output ends as.
+#[tactic(auto, using(wire::proofs::Bytes::put_put), unfolding(crate::specs::Packet::header))]
 pub fn write_header(part: &mut [u8], application: u16, sequence: u16, time: u32)
     requires body_at_in_bounds { body_at ≤ length part.old }
     requires application_lt_secondary_flag { application < secondary_flag }

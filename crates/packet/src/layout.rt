@@ -62,15 +62,6 @@ pub const LIMHI_AT: usize = FLAGS_AT + 1;
 
 pub const TABLE_SUM_AT: usize = LIMHI_AT + 2;
 
-// The flags' values; those below junk's have no use.
-pub const HV: u8 = 128;
-
-pub const EONLY: u8 = 64;
-
-pub const TOFERROR: u8 = 32;
-
-pub const JUNK: u8 = 16;
-
 // A sample packet's records.
 pub const RECORDS: usize = 64;
 

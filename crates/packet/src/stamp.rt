@@ -11,7 +11,7 @@ pub struct Stamp {
     // In seconds.
     pub time: u32,
     pub frame: u16,
-    // Byte 269: p in a sample packet, in the others the mark of their codes' edition.
+    // Byte 269: the mark of the codes' edition, and no `Mark`, since in a sample packet it is p.
     pub mark: u8,
     // Byte 270: zero.
     pub last: u8,

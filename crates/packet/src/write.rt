@@ -8,7 +8,7 @@ ghost use Rattle.rate_code.specs.Editions.{second_mark};
 ghost use Rattle.boxes.specs.Boxes.{beacon_count};
 ghost use Rattle.packet.specs.Layout.{packet_bytes, frame_at, sum_at, gap_at, code_bytes};
 ghost use Rattle.packet.specs.Layout.{record_count};
-ghost use Rattle.packet.specs.Packet.{trailer, codes, settings_flags, settings_bytes};
+ghost use Rattle.packet.specs.Packet.{trailer, codes, settings_bytes};
 ghost use Rattle.packet.specs.Packet.{rate_packet, sample_packet, beacon_packet};
 
 use crate::applications::{BEACON_APPLICATION, RATE_APPLICATION, of_sample};
@@ -19,10 +19,10 @@ use boxes::{BOXES, TOTALS};
 use rate_code::code::RateCode;
 use rate_code::second::Second;
 use settings::Settings;
-use wire::bits::bit;
 use wire::number::BigEndian;
 
 // The frame and the two bytes behind it.
+#[tactic(auto, using(wire::proofs::Bytes::put_put), unfolding(crate::specs::Packet::trailer))]
 fn write_trailer(part: &mut [u8], stamp: Stamp)
     requires { sum_at ≤ length part.old }
     ensures { part.new ≡ put part.old frame_at (trailer stamp) }
@@ -32,7 +32,8 @@ fn write_trailer(part: &mut [u8], stamp: Stamp)
     stamp.last.put(part, layout::LAST_AT);
 }
 
-// The counts' codes of the second edition, two bytes each, from `at` on.
+// The counts' codes of the second edition, two bytes each, from `at` on. By place: the library's `as_chunks_mut` says
+// nothing of what it leaves. That a count has a code stays a clause: the counts lie in the state, and any may be lent.
 fn write_codes(part: &mut [u8], at: usize, counts: &[u32])
     requires counts_in_bounds { at + code_bytes * length counts.now ≤ length part.old }
     requires each_below { EachBelow count_limit counts.now }
@@ -44,17 +45,8 @@ fn write_codes(part: &mut [u8], at: usize, counts: &[u32])
     }
 }
 
-// The settings that are on or off, in one byte.
-fn flags(s: Settings) -> u8
-    ensures { result ≡ settings_flags s }
-{
-    layout::HV * bit(s.hv)
-        + layout::EONLY * bit(s.eonly)
-        + layout::TOFERROR * bit(s.toferror)
-        + layout::JUNK * bit(s.junk)
-}
-
 // What stands between a rate packet's codes and its frame.
+#[tactic(auto, using(wire::proofs::Bytes::put_put), unfolding(crate::specs::Packet::settings_bytes))]
 fn write_settings(part: &mut [u8], s: Settings, sum: u32)
     requires frame_at_in_bounds { frame_at ≤ length part.old }
     requires sum_bound { sum < 16777216 }
@@ -62,7 +54,7 @@ fn write_settings(part: &mut [u8], s: Settings, sum: u32)
 {
     0u8.put(part, layout::GAP_AT);
     s.hvstep.put(part, layout::HVSTEP_AT);
-    flags(s).put(part, layout::FLAGS_AT);
+    s.flags().put(part, layout::FLAGS_AT);
     s.limhi.put(part, layout::LIMHI_AT);
     wire::write::put_u24(part, layout::TABLE_SUM_AT, sum);
 }

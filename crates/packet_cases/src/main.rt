@@ -9,7 +9,7 @@ use boxes::{BEACONS, BOXES};
 use packet::layout;
 use packet::stamp::stamp_of;
 use packet::write::RateBody;
-use rate_code::editions::SECOND_MARK;
+use rate_code::editions::Mark;
 use settings::Settings;
 
 fn main(rt: HostRuntime) {
@@ -25,7 +25,7 @@ fn main(rt: HostRuntime) {
         hv: true,
         hvstep: 201,
     };
-    let stamp = stamp_of(0, 305419896, SECOND_MARK);
+    let stamp = stamp_of(0, 305419896, Mark::Second.number());
     let body = RateBody {
         totals: &totals,
         boxes: &boxes,
@@ -42,7 +42,11 @@ fn main(rt: HostRuntime) {
     cases::sample(&rt, &part);
     let mut beacons = [0u32; BEACONS];
     values::fill_counts(&mut beacons, 99);
-    packet::write::write_beacon(&mut part, stamp_of(65535, 60, SECOND_MARK), &beacons);
+    packet::write::write_beacon(
+        &mut part,
+        stamp_of(65535, 60, Mark::Second.number()),
+        &beacons,
+    );
     show::packet(&rt, &part);
     cases::beacon(&rt, &part);
 }

@@ -4,75 +4,32 @@ use causes::call_number;
 use ground::{Contents, Packet};
 use packet::layout::RATES;
 use settings::Settings;
+use std::fmt;
+use std::fmt::{Display, Formatter};
 
-// What the reader tells of a packet by its kind's number, and zeros for what that kind has not.
+// A packet's header and frame.
 #[derive(Clone, Copy)]
-struct Told {
-    kind: u8,
-    mark: u8,
-    p: u8,
-    sum: u32,
-    settings: Settings,
-    rates: [u32; RATES],
-    beacons: [u32; BEACONS],
-}
+struct Header(Packet);
 
-const NOTHING: Told = Told {
-    kind: 0,
-    mark: 0,
-    p: 0,
-    sum: 0,
-    settings: Settings {
-        limhi: 0,
-        eonly: false,
-        toferror: false,
-        junk: false,
-        hv: false,
-        hvstep: 0,
-    },
-    rates: [0; RATES],
-    beacons: [0; BEACONS],
-};
-
-fn told_of(contents: Contents) -> Told {
-    match contents {
-        Contents::Rate {
-            mark,
-            rates,
-            settings,
-            sum,
-        } => Told {
-            kind: 1,
-            mark,
-            rates,
-            settings,
-            sum,
-            ..NOTHING
-        },
-        Contents::Sample { p } => Told {
-            kind: 2,
-            p,
-            ..NOTHING
-        },
-        Contents::Beacon { mark, beacons } => Told {
-            kind: 3,
-            mark,
-            beacons,
-            ..NOTHING
-        },
+impl Display for Header {
+    fn fmt<W: fmt::Write>(&self, f: &mut Formatter<W>) -> fmt::Result {
+        let Packet {
+            application,
+            sequence,
+            time,
+            frame,
+            ..
+        } = self.0;
+        write!(f, "{application} {sequence} {time} {frame}")
     }
 }
 
-fn hex_line(rt: &HostRuntime, bytes: &[u8]) {
-    for b in bytes {
-        let _ = print!(rt; "{b:02x}");
-    }
-    let _ = println!(rt; "");
-}
-
-fn counts_line(rt: &HostRuntime, counts: &[u32]) {
-    for n in counts {
-        let _ = print!(rt; "{n} ");
+// All items, each shown in turn, are a line.
+fn line<T, F: Fn(&T)>(rt: &HostRuntime, items: &[T], show: &F)
+    requires { F.IsAlwaysCallable show.now }
+{
+    for item in items {
+        show(item);
     }
     let _ = println!(rt; "");
 }
@@ -83,29 +40,48 @@ fn settings_line(rt: &HostRuntime, s: Settings) {
     let _ = println!(rt; "{} {} ", u8::from(s.hv), s.hvstep);
 }
 
-// Number, kind, header and frame, table sum, p, mark; and what the kind has.
-fn read_lines(rt: &HostRuntime, packet: Packet) {
-    let Told {
-        kind,
-        mark,
-        p,
-        sum,
-        settings,
-        rates,
-        beacons,
-    } = told_of(packet.contents);
-    let Packet {
-        application,
-        sequence,
-        time,
-        frame,
-        ..
-    } = packet;
-    let _ = print!(rt; "0 {kind} {application} {sequence} ");
-    let _ = println!(rt; "{time} {frame} {sum} {p} {mark} ");
+// What a kind has.
+fn contents_lines(rt: &HostRuntime, settings: Settings, rates: &[u32], beacons: &[u32]) {
+    let count = |n: &u32| {
+        let _ = print!(rt; "{n} ");
+    };
     settings_line(rt, settings);
-    counts_line(rt, &rates);
-    counts_line(rt, &beacons);
+    line(rt, rates, &count);
+    line(rt, beacons, &count);
+}
+
+// What stands for the settings of a kind that has none: the output has their numbers, and `Settings` no default but the fresh ones.
+const NO_SETTINGS: Settings = Settings {
+    limhi: 0,
+    eonly: false,
+    toferror: false,
+    junk: false,
+    hv: false,
+    hvstep: 0,
+};
+
+// Number, kind, header and frame, table sum, p, mark; and what the kind has. Zeros for what it has not.
+fn read_lines(rt: &HostRuntime, packet: Packet) {
+    let header = Header(packet);
+    match packet.contents {
+        Contents::Rate {
+            mark,
+            rates,
+            settings,
+            sum,
+        } => {
+            let _ = println!(rt; "0 1 {header} {sum} 0 {} ", mark.number());
+            contents_lines(rt, settings, &rates, &[0; BEACONS]);
+        }
+        Contents::Sample { p } => {
+            let _ = println!(rt; "0 2 {header} 0 {p} 0 ");
+            contents_lines(rt, NO_SETTINGS, &[0; RATES], &[0; BEACONS]);
+        }
+        Contents::Beacon { mark, beacons } => {
+            let _ = println!(rt; "0 3 {header} 0 0 {} ", mark.number());
+            contents_lines(rt, NO_SETTINGS, &[0; RATES], &beacons);
+        }
+    }
 }
 
 // The number that the reader answers.
@@ -115,10 +91,13 @@ pub fn number(rt: &HostRuntime, bytes: &[u8]) {
 
 // A packet's bytes, and all that the reader answers for it.
 pub fn packet(rt: &HostRuntime, bytes: &[u8]) {
-    hex_line(rt, bytes);
+    let hex = |b: &u8| {
+        let _ = print!(rt; "{b:02x}");
+    };
+    line(rt, bytes, &hex);
     match ground::read(bytes) {
         Ok(packet) => read_lines(rt, packet),
         Err(_) => number(rt, bytes),
     }
-    hex_line(rt, ground::records(bytes));
+    line(rt, ground::records(bytes), &hex);
 }

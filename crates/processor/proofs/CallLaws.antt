@@ -1,20 +1,9 @@
 -- What a line, a close and a listing that are carried out have passed, check by check. Assumes nothing.
-use mathlib.Core.Path.{◌≡◌, refl, sym, ap, ◌∙◌}
-use mathlib.Core.Bool.{Bool, true, false, ◌&&◌, cond}
-use mathlib.Core.List.{List, [], ◌∷◌}
-use Prim.Native.Nat.{ℕ, ◌≤◌, ◌<◌}
-use borrow.Author.Tests.{eqb-true, ltb-true, leb-true}
-use lib.Dec.{leb}
-use lib.ListN.{length}
-use Rattle.causes.specs.Causes as cause
+use Rattle.std.proofs.Common.{◌≡◌, refl, Bool, true, ◌&&◌, List, ℕ, ◌<◌, eqb-true, ltb-true, length}
 use Rattle.causes.specs.Checks.{number_by}
 use Rattle.causes.proofs.CheckLaws.{all_passed}
 use Rattle.wire.proofs.Lists.{and_left, and_split}
 use Rattle.tables.specs.Tables.{table_bytes}
-use Rattle.load.specs.Bitmap.{bitmap_bytes}
-use Rattle.load.specs.Staging.{staging_bytes}
-use Rattle.echo.specs.Echo.{echo_bytes}
-use Rattle.command.specs.Grammar.{bytes_ok}
 use Rattle.packet.specs.Layout.{packet_bytes}
 use Rattle.listing_packet.specs.Listing.{listing_packets}
 use Rattle.output.specs.Output.{span_bytes}
@@ -33,11 +22,6 @@ module _ (s : State) (line staging bitmap : List ℕ) (echo : ℕ) where
   abbrev pub line_sound : Bool
   line_sound = within_limits s && line_lent (length staging) (length bitmap) echo
 
-  -- past 1 and 4, the number is that of the command
-  pub line_number_lem : line_sound ≡ true → bytes_ok line ≡ true → line_number s line staging bitmap echo ≡ number_by (state_checks s line staging bitmap)
-  unfolding line_number
-  line_number_lem w b = rw (w, b)
-
   -- a line that is accepted passes each check
   pub record LineAccepted : Type 0 where
     pub limits : within_limits s ≡ true
@@ -49,43 +33,6 @@ module _ (s : State) (line staging bitmap : List ℕ) (echo : ℕ) where
       let p = all_passed (line_checks line_sound line (state_checks s line staging bitmap)) refl h in
       record { limits = and_left _ _ p.0; accepts = rw (p.0, p.1.0) at h }
 
-  -- 1 and 4, judged before the command: a number that is not 0 is the call's, and neither 5 nor above
-  pub line_early : (n : ℕ) → n ≡ cond line_sound (cond (bytes_ok line) 0 4) 1 → (n ≡ 0 → ⊥)
-      → (line_number s line staging bitmap echo ≡ n) × (leb 5 n ≡ false)
-  unfolding line_number
-  line_early n e h = go line_sound (bytes_ok line) _ e
-    where
-      go : (a b : Bool) (rest : ℕ) → n ≡ cond a (cond b 0 4) 1 → (cond a (cond b rest 4) 1 ≡ n) × (leb 5 n ≡ false)
-      go true true rest e = absurd (h e)
-      go true false rest e = (sym e, ap (leb 5) e)
-      go false b rest e = (sym e, ap (leb 5) e)
-
-  -- what is known past them
-  pub record LineSound : Type 0 where
-    pub sound : line_sound ≡ true
-    pub limits : within_limits s ≡ true
-    pub staging_is : length staging ≡ staging_bytes
-    pub bitmap_is : length bitmap ≡ bitmap_bytes
-    pub echo_is : echo ≡ echo_bytes
-    pub bytes : bytes_ok line ≡ true
-    pub short : length line ≤ 80
-
-  pub early_passed : (n : ℕ) → n ≡ cond line_sound (cond (bytes_ok line) 0 4) 1 → n ≡ 0 → LineSound
-  early_passed n e z =
-      let p = all_passed ((line_sound, cause.buffer_or_state) ∷ (bytes_ok line, cause.line_bytes) ∷ []) refl (sym e ∙ z) in
-      let q = and_split _ _ p.0 in
-      let r = and_split _ _ q.1 in
-      let t = and_split _ _ r.0 in
-      record {
-        sound = p.0;
-        limits = q.0;
-        staging_is = eqb-true _ _ t.0;
-        bitmap_is = eqb-true _ _ t.1;
-        echo_is = eqb-true _ _ r.1;
-        bytes = p.1.0;
-        short = leb-true _ _ (and_left _ _ p.1.0);
-      }
-
 -- ---- a close
 
 pub record CloseAccepted (s : State) (tables staging : ℕ) (slots : List ℕ) (out : ℕ) : Type 0 where
@@ -94,14 +41,19 @@ pub record CloseAccepted (s : State) (tables staging : ℕ) (slots : List ℕ) (
   pub lent : RightLent s.capacity tables staging slots
   pub out_is : out ≡ span_bytes (close_span s.capacity)
 
+pub close_right : (s : State) (tables staging : ℕ) (slots : List ℕ) (out : ℕ)
+    → (endable s tables staging slots && out_right s.capacity out) ≡ true → CloseAccepted s tables staging slots out
+close_right s tables staging slots out h =
+    let q = and_split _ _ h in
+    let e = end_passed s tables staging slots q.0 in
+    record { can_end = q.0; limits = e.0; lent = e.1; out_is = eqb-true _ _ q.1 }
+
 pub close_accepted : (s : State) (tables staging : ℕ) (slots : List ℕ) (out : ℕ) → close_number s tables staging slots out ≡ 0
     → CloseAccepted s tables staging slots out
 unfolding close_number
 close_accepted s tables staging slots out h =
-    let p = all_passed (close_checks (endable s tables staging slots && out_right s.capacity out)) refl h in
-    let q = and_split _ _ p.0 in
-    let e = end_passed s tables staging slots q.0 in
-    record { can_end = q.0; limits = e.0; lent = e.1; out_is = eqb-true _ _ q.1 }
+    close_right s tables staging slots out
+    (all_passed (close_checks (endable s tables staging slots && out_right s.capacity out)) refl h).0
 
 -- ---- a listing
 

@@ -1,3 +1,4 @@
 pub mod CallLaws
 pub mod LimitsKept
 pub mod Lowest
+pub mod Lent

@@ -1,11 +1,5 @@
 -- A call from any state within its limits returns a state within its limits. Assumes nothing.
-use mathlib.Core.Path.{◌≡◌, refl}
-use mathlib.Core.Bool.{true}
-use mathlib.Core.List.{List}
-use Prim.Native.Nat.{ℕ}
-use borrow.Author.Tests.{eqb-true}
-use lib.Dec.{eqb}
-use lib.ListN.{length}
+use Rattle.std.proofs.Common.{◌≡◌, refl, true, List, ℕ, eqb-true, eqb, length}
 use Rattle.wire.specs.Lists.{EachBelow}
 use Rattle.wire.proofs.Lists.{and_right, choice}
 use Rattle.capacity.specs.declared.Capacity.{Capacity}

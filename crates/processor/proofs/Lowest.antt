@@ -1,7 +1,5 @@
 -- The checks of every call stand in the order of their numbers, so the first that applies is the lowest. Assumes nothing.
-use mathlib.Core.Path.{refl}
-use mathlib.Core.Bool.{◌&&◌}
-use lib.ListN.{length}
+use Rattle.std.proofs.Common.{refl, ◌&&◌, length}
 use Rattle.causes.proofs.CheckLaws.{lowest}
 use Rattle.command_list.specs.CommandList.{load_waits}
 use Rattle.state.specs.Limits.{within_limits}

@@ -1,9 +1,13 @@
 // The end of an interval: judged, packets, ended.
-ghost use Rattle.std.specs.Prelude.{◌≡◌, IfOk};
+ghost use Rattle.std.specs.Prelude.{◌≡◌, ◌&&◌, IfOk};
 ghost use Rattle.causes.specs.Causes.{call_number};
-ghost use Rattle.processor.specs.Close.{close_span, close_number, close_done};
+ghost use Rattle.tables.specs.Tables.{table_bytes};
+ghost use Rattle.load.specs.Staging.{staging_bytes};
+ghost use Rattle.end_interval.specs.End.{endable};
+ghost use Rattle.processor.specs.Close.{close_span, out_right, close_done};
 
 use causes::{Cause, check};
+use load::staging::Staging;
 use output::{Span, Summary};
 use state::State;
 
@@ -14,22 +18,12 @@ fn close_span(state: &State) -> Span
     output::whole_span(capacity::numbers_of(state.capacity))
 }
 
-// Whether the interval is ended, by the lengths of tables, staging and output.
-#[tactic(auto, unfolding(crate::specs::Close::close_number))]
-fn judge(
-    state: &State,
-    tables: usize,
-    staging: usize,
-    slots: &[u32],
-    out: usize,
-) -> Result<(), Cause>
-    ensures { call_number result ≡ close_number state.now tables staging slots.now out }
+// Whether the interval is ended, by the length of the output.
+fn is_right(state: &State, slots: &[u32], out: usize) -> bool
+    ensures { result ≡ endable state.now table_bytes staging_bytes slots.now && out_right state.now.capacity out }
 {
     let right = out == output::span_bytes(close_span(state));
-    check(
-        end_interval::endable(state, tables, staging, slots) & right,
-        Cause::BufferOrState,
-    )
+    end_interval::endable(state, slots) & right
 }
 
 // The end of the interval: 1, or its counts, with the packets written, the waiting commands run, and counts and slots zero.
@@ -55,7 +49,13 @@ pub fn close(
     ensures out { out.new
         ≡ (close_done state.old time tables.old staging.now slots.old out.old).out }
 {
-    judge(state, tables.len(), staging.len(), slots, out.len())?;
+    let Some(tables) = tables.as_mut_array() else {
+        return Err(Cause::BufferOrState);
+    };
+    let Ok(staging) = <&Staging>::try_from(staging) else {
+        return Err(Cause::BufferOrState);
+    };
+    check(is_right(state, slots, out.len()), Cause::BufferOrState)?;
     let summary = end_interval::summary_of(state, slots);
     let span = close_span(state);
     output::write_packets(state, time, tables, slots, span, out);

@@ -16,7 +16,7 @@ pub fn event(state: &mut State, tables: &[u8], slots: &mut [u32], event: Event) 
     ensures state { state.new ≡ (event_done state.old tables.now slots.old event).answer.state }
     ensures slots { slots.new ≡ (event_done state.old tables.now slots.old event).slots }
 {
-    judge(state, tables.len(), slots.len(), event)?;
+    let tables = judge(state, tables, slots.len(), event)?;
     take_event(state, tables, slots, event);
     Ok(())
 }

@@ -7,6 +7,8 @@ ghost use Rattle.take_line.specs.Line.{line_lent, line_checks};
 ghost use Rattle.processor.specs.Line.{line_done};
 
 use causes::{Cause, check};
+use load::bitmap::Bitmap;
+use load::staging::Staging;
 use state::State;
 use take_line::take_line;
 
@@ -28,13 +30,16 @@ pub fn line(
     ensures echo { echo.new
         ≡ (line_done state.old line.now staging.now bitmap.now echo.old).echo }
 {
-    let lent = (staging.len() == load::staging::STAGING_BYTES)
-        & (bitmap.len() == load::bitmap::BITMAP_BYTES)
-        & (echo.len() == echo::ECHO_BYTES);
-    check(
-        state::limits::within_limits(state) & lent,
-        Cause::BufferOrState,
-    )?;
+    let Ok(staging) = <&Staging>::try_from(staging) else {
+        return Err(Cause::BufferOrState);
+    };
+    let Ok(bitmap) = <&Bitmap>::try_from(bitmap) else {
+        return Err(Cause::BufferOrState);
+    };
+    let Some(echo) = echo.as_mut_array() else {
+        return Err(Cause::BufferOrState);
+    };
+    check(state::limits::within_limits(state), Cause::BufferOrState)?;
     check(command::line::bytes_ok(line), Cause::LineBytes)?;
     take_line(state, line, staging, bitmap, echo)
 }

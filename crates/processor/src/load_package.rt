@@ -3,10 +3,9 @@ ghost use Rattle.std.specs.Prelude.{◌≡◌};
 ghost use Rattle.causes.specs.Causes.{call_number};
 ghost use Rattle.processor.specs.Package.{package_done};
 
-use causes::Cause;
-use load::package::Package;
+use causes::{Cause, check};
 use state::State;
-use take_package::{echo_staged, is_staged, judge, stage};
+use take_package::{echo_staged, judge, stage};
 
 // One load package: 1, 6, 8, 9, or its bytes staged with 0 or 10.
 #[tactic(auto, unfolding(crate::specs::Package::package_done))]
@@ -28,16 +27,18 @@ pub fn package(
     ensures echo { echo.new
         ≡ (package_done state.old bytes.now staging.old bitmap.old echo.old).echo }
 {
-    let judged = judge(state, bytes, staging.len(), bitmap.len(), echo.len());
-    if !is_staged(judged) {
-        return judged;
-    }
-    // What `judge` has found is not handed on, since it refuses a package that is staged with a wrong sum.
-    let Ok(sent) = Package::parse(bytes) else {
-        unreachable!()
+    let Some(staging) = staging.as_mut_array() else {
+        return Err(Cause::BufferOrState);
     };
-    let wrong = judged.is_err();
+    let Some(bitmap) = bitmap.as_mut_array() else {
+        return Err(Cause::BufferOrState);
+    };
+    let Some(echo) = echo.as_mut_array() else {
+        return Err(Cause::BufferOrState);
+    };
+    let sent = judge(state, bytes)?;
+    let wrong = !sent.sum_right();
     echo_staged(wrong, state.staging.next, &sent, echo);
     stage(state, wrong, &sent, staging, bitmap);
-    judged
+    check(!wrong, Cause::PackageSum)
 }

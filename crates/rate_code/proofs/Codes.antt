@@ -1,16 +1,13 @@
 -- The shift is the one that leaves twelve bits, a count's code is valid, and its least count is at most the count. Assumes nothing.
 -- Other files go by the laws marked `pub`, and open no definition of specs/Rate.antt.
-use mathlib.Core.Path.{◌≡◌, refl, sym, ap, ◌∙◌}
-use mathlib.Core.Logic.{◌⊎◌, inl, inr, ⊎_elim}
-use mathlib.Core.Bool.{Bool, true, false, or-true}
-use Prim.Native.Nat.{ℕ, zero, suc, ◌+◌, ◌-◌, ◌*◌, ◌/◌, ◌%◌, ◌^◌, ◌≤◌, ◌<◌}
-use native.Mathlib.Omega.{arith}
-use native.Mathlib.Nat.{pow-succ', mul-le-mul, mul-le-mul_right, mul-lt-mul_of_pos_right, eq-or-lt_of_le}
-use native.Mathlib.Nat.{div-mul-le_self, mul-div_cancel, le-div_iff_mul-le, div-lt_iff_lt-mul}
-use lib.Pow.{pow_pos, pow_mono, pow-add}
-use lib.Dec.{ltb, eqb}
-use lib.Count.{count_leading_zeros, leading_top}
-use borrow.Author.Tests.{lt-ltb, le-ltb, ltb-true, ltb-false, leb-true, le-leb, eqb-true}
+use Rattle.std.proofs.Common.{◌≡◌, refl, ◌⊎◌, Bool, true, false, ℕ, zero, suc, ◌+◌, ◌-◌, ◌*◌, ◌/◌, ◌%◌, ◌^◌, ◌≤◌, ◌<◌, ltb, eqb}
+use Rattle.std.proofs.Common.{sym, ap, ◌∙◌, inl, inr, ⊎_elim, arith, mul-le-mul, mul-le-mul_right, mul-lt-mul_of_pos_right}
+use Rattle.std.proofs.Common.{eq-or-lt_of_le, div-mul-le_self, mul-div_cancel, le-div_iff_mul-le, div-lt_iff_lt-mul, pow_pos}
+use Rattle.std.proofs.Common.{pow_mono, pow-add, lt-ltb, le-ltb, ltb-true, ltb-false, leb-true, le-leb, eqb-true}
+use lib.Count.{leading_top}
+use Rattle.std.proofs.Math.Bool.{or-true}
+use Rattle.std.proofs.Math.Nat.{pow-succ'}
+use Rattle.std.specs.Int.Count.{count_leading_zeros}
 use Rattle.wire.proofs.Lists.{and_split, or_split}
 use Rattle.rate_code.specs.Laws.{CodeLaws}
 use Rattle.rate_code.specs.Rate.{count_limit, least_from, shift, rate_code, least_count, code_valid}

@@ -1,16 +1,11 @@
 -- A second-edition code fits 16 bits and is below D000, its least count is at most the count and has that code again, every code below
 -- D000 is that of its least count, and the edition is never coarser than the first. Assumes nothing.
-use mathlib.Core.Path.{◌≡◌, sym, ap, ◌∙◌}
-use mathlib.Core.Bool.{true}
-use mathlib.Core.Logic.{⊎_elim}
-use Prim.Native.Nat.{ℕ, suc, ◌+◌, ◌-◌, ◌*◌, ◌/◌, ◌%◌, ◌^◌, ◌≤◌, ◌<◌}
-use native.Mathlib.Omega.{arith}
-use native.Mathlib.Nat.{pow-succ', mul_assoc, mul-le-mul, mul-le-mul_right, mul-lt-mul_of_pos_right}
-use native.Mathlib.Nat.{div-mul-le_self, mul-div_cancel, le-div_iff_mul-le, div-lt_iff_lt-mul}
-use lib.Pow.{pow_pos, pow_mono, pow-add}
-use lib.Count.{count_leading_zeros}
-use lib.Dec.{ltb}
-use borrow.Author.Tests.{lt-ltb, le-ltb, ltb-true, ltb-false}
+use Rattle.std.specs.Prelude.{◌≡◌, true, ℕ, suc, ◌+◌, ◌-◌, ◌*◌, ◌/◌, ◌%◌, ◌^◌, ◌≤◌, ◌<◌, ltb}
+use Rattle.std.proofs.Common.{sym, ap, ◌∙◌, ⊎_elim, arith, mul_assoc, mul-le-mul, mul-le-mul_right, mul-lt-mul_of_pos_right}
+use Rattle.std.proofs.Common.{div-mul-le_self, mul-div_cancel, le-div_iff_mul-le, div-lt_iff_lt-mul, pow_pos, pow_mono, pow-add}
+use Rattle.std.proofs.Common.{lt-ltb, le-ltb, ltb-true, ltb-false}
+use Rattle.std.proofs.Math.Nat.{pow-succ'}
+use Rattle.std.specs.Int.Count.{count_leading_zeros}
 use Rattle.wire.proofs.Lists.{decide}
 use Rattle.rate_code.specs.Laws.{CodeLaws}
 use Rattle.rate_code.specs.Rate.{count_limit, rate_code, least_count, code_valid}

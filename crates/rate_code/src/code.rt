@@ -10,7 +10,7 @@ pub trait RateCode {
 
     ghost valid: { ℕ → Bool };
 
-    // The code of a count.
+    // The code of a count, below 2^24: a clause, since counts lie in a state, which is judged.
     fn encode(n: u32) -> u16
         requires { n < count_limit }
         ensures code { result ≡ code n }

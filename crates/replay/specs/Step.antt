@@ -3,16 +3,13 @@ use Rattle.std.specs.Prelude.{true, false, cond, List, ◌≡◌, ℕ, length, O
 use Rattle.state.specs.declared.State.{State}
 use Rattle.stream.specs.Kind.{kind_number}
 use Rattle.stream.specs.Record.{body_in}
+use Rattle.stream.specs.Run.{Used}
 use Rattle.stream.specs.declared.kind.BadRecord.{BadRecord}
 use Rattle.stream.specs.declared.record.Record.{Record}
 use Rattle.gatherer.specs.GatherTheorems.{Gatherer}
 use Rattle.replay_calls.specs.Record.{body_right}
 use Rattle.replay_calls.specs.Calls.{kind_done, Left}
 use Rattle.replay_calls.specs.Ground.{ground_out}
-
--- what a step hands back: how many bytes it used, none at the end of the input, or a bad record
-abbrev pub Used : Type 0
-Used = Result (Option ℕ) BadRecord
 
 -- the end and a bad record change nothing and are the last
 abbrev pub Same : State → (tables staging bitmap slots echo : List ℕ) → Used → Used

@@ -14,6 +14,7 @@ use replay_calls::records;
 use stream::kind::BadRecord;
 use stream::record::Next;
 use stream::run::{Program, run};
+use stream::session::Session;
 use stream::start::{SLOTS, fresh};
 use tables::TABLE_BYTES;
 
@@ -32,10 +33,10 @@ impl<'a> Program for Replay<'a> {
 
     ghost lies = { LiesIn };
 
-    fn next(input: &mut Input, text: &mut Text) -> Next
-        ensures { LiesIn result input.new }
+    fn next(session: &mut Session) -> Next
+        ensures { LiesIn result session.new.input }
     {
-        records::next(input, text)
+        records::next(session)
     }
 
     fn step(
@@ -94,9 +95,9 @@ fn main(rt: HostRuntime) {
             table: &mut table,
         },
     };
-    run(
-        &mut replay,
-        &mut Input::new(&mut buffer),
-        &mut Text::new(&rt, &mut text),
-    );
+    let mut session = Session {
+        input: Input::new(&mut buffer),
+        text: Text::new(&rt, &mut text),
+    };
+    run(&mut replay, &mut session);
 }

@@ -19,8 +19,7 @@ use answers::calls::{
 use answers::close::print_close;
 use answers::listing::print_written;
 use buffered::text::Text;
-use causes::call_number;
-use image::layout::IMAGE_BYTES;
+use image::layout::{IMAGE_BYTES, Image};
 use packet::layout::PACKET_BYTES;
 use state::State;
 use stream::kind::Kind;
@@ -38,7 +37,8 @@ pub struct Aboard<'a> {
     pub echo: &'a mut [u8],
 }
 
-// Each call takes as `&mut` what it only reads too: loans of both kinds behind one `&mut self` are not covered by the check.
+// Each call takes as `&mut` what it only reads too: loans of both kinds behind one `&mut self` are not covered by the check. A record's
+// body and the text stay two parameters: one is read, the other written, and neither is of the other.
 
 fn event(state: &mut State, tables: &mut [u8], slots: &mut [u32], body: &[u8], text: &mut Text)
     requires { length body.now ≡ 7 }
@@ -47,7 +47,7 @@ fn event(state: &mut State, tables: &mut [u8], slots: &mut [u32], body: &[u8], t
     ensures tables { tables.new ≡ tables.old }
 {
     let answer = stream::record::event(state, tables, slots, body);
-    print_number(text, "event", call_number(&answer));
+    print_number(text, "event", &answer);
 }
 
 fn reading(state: &mut State, body: &[u8], text: &mut Text)
@@ -55,7 +55,7 @@ fn reading(state: &mut State, body: &[u8], text: &mut Text)
     ensures { state.new ≡ (reading_done state.old (counts_in body.now)).state }
 {
     let answer = stream::record::reading(state, body);
-    print_number(text, "reading", call_number(&answer));
+    print_number(text, "reading", &answer);
 }
 
 fn line(
@@ -74,7 +74,7 @@ fn line(
     ensures bitmap { bitmap.new ≡ bitmap.old }
 {
     let answer = processor::line::line(state, body, staging, bitmap, echo);
-    print_line(text, call_number(&answer), echo, answer.unwrap_or(0));
+    print_line(text, answer, echo);
 }
 
 fn package(
@@ -95,7 +95,7 @@ fn package(
         ≡ (package_done state.old body.now staging.old bitmap.old echo.old).echo }
 {
     let answer = processor::load_package::package(state, body, staging, bitmap, echo);
-    print_package(text, call_number(&answer), echo);
+    print_package(text, answer, echo);
 }
 
 // The packets are printed only where the close has filled them whole.
@@ -119,10 +119,9 @@ fn close(
         (zeros out_bytes)).slots }
     ensures staging { staging.new ≡ staging.old }
 {
-    let time = u32::read(body, 0);
     let frame = state.frame;
     let mut packets = [0u8; OUT_BYTES];
-    let ended = processor::close::close(state, time, tables, staging, slots, &mut packets);
+    let ended = stream::record::close(state, tables, staging, slots, body, &mut packets);
     print_close(text, frame, ended, &packets);
 }
 
@@ -145,7 +144,10 @@ fn hand_in(body: &[u8], text: &mut Text) -> State
     ensures { result ≡ state_of body.now }
 {
     print_state(text);
-    image::read::decode(body)
+    let Ok(image) = <&Image>::try_from(body) else {
+        unreachable!()
+    };
+    image::read::decode(image)
 }
 
 // The bytes that are shown of a state.
@@ -167,8 +169,9 @@ fn hand_in_slots(slots: &mut [u32], body: &[u8], text: &mut Text)
 }
 
 impl<'a> Aboard<'a> {
-    // One record, of which those of the ground change nothing aboard.
-    #[tactic(auto, unfolding(crate::specs::Calls::kind_done))]
+    // One record, of which those of the ground change nothing aboard. A `match`, since each kind's call takes other parts of
+    // these.
+    #[tactic(auto, unfolding(crate::specs::Calls::kind_done, crate::specs::Record::body_right))]
     pub fn carry_out(&mut self, kind: Kind, body: &[u8], text: &mut Text)
         requires long { Long (kind_number kind) (length body.now) }
         requires slots_value { body_right (kind_number kind) body.now (length self.old.slots.now) ≡ true }

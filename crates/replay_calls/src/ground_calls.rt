@@ -8,6 +8,8 @@ ghost use Rattle.replay_calls.specs.Ground.{gatherer, ground_out};
 use answers::listing::{print_gather, print_gathered, print_written};
 use answers::packets::print_packet;
 use buffered::text::Text;
+use causes::Cause;
+use converter::{to_first, to_second};
 use gatherer::{Gathered, gather};
 use packet::layout::PACKET_BYTES;
 use stream::kind::Kind;
@@ -19,18 +21,18 @@ pub struct Ground<'a> {
     pub table: &'a mut [u8],
 }
 
-// Bytes converted to the second edition.
-fn to_second(body: &[u8], text: &mut Text) {
+// Bytes converted to the edition that is named.
+fn convert<F: FnOnce(&[u8], &mut [u8]) -> Result<(), Cause>>(
+    edition: &str,
+    convert: F,
+    body: &[u8],
+    text: &mut Text,
+)
+    requires { F.IsAlwaysCallable convert }
+{
     let mut out = [0u8; PACKET_BYTES];
-    let answer = converter::to_second(body, &mut out);
-    print_written(text, "second", answer, &out);
-}
-
-// And to the first.
-fn to_first(body: &[u8], text: &mut Text) {
-    let mut out = [0u8; PACKET_BYTES];
-    let answer = converter::to_first(body, &mut out);
-    print_written(text, "first", answer, &out);
+    let answer = convert(body, &mut out);
+    print_written(text, edition, answer, &out);
 }
 
 impl<'a> Ground<'a> {
@@ -52,6 +54,7 @@ impl<'a> Ground<'a> {
     }
 
     // One record, of which those of the calls aboard, and what is read or converted, change nothing that is gathered.
+    // A `match`, since of the calls two work on what is gathered and three on the body alone.
     #[tactic(auto, unfolding(crate::specs::Ground::ground_out))]
     pub fn carry_out(&mut self, kind: Kind, body: &[u8], text: &mut Text)
         ensures { gatherer self.new.gathered self.new.table.now
@@ -61,8 +64,8 @@ impl<'a> Ground<'a> {
             Kind::Packet => print_packet(text, body),
             Kind::Gather => self.gather(body, text),
             Kind::Gathered => self.hand_over(text),
-            Kind::ToSecond => to_second(body, text),
-            Kind::ToFirst => to_first(body, text),
+            Kind::ToSecond => convert("second", to_second, body, text),
+            Kind::ToFirst => convert("first", to_first, body, text),
             _ => {}
         }
     }

@@ -1,10 +1,6 @@
 -- A packed record gives back its fields, and is zero only without a box. Assumes nothing.
-use mathlib.Core.Path.{◌≡◌, refl}
-use mathlib.Core.Bool.{Bool, true, false}
-use Prim.Native.Nat.{ℕ, ◌*◌, ◌/◌, ◌%◌, ◌^◌, ◌≤◌, ◌<◌}
-use native.Mathlib.Nat.{mod-eq_of_lt, one-mul}
-use native.Mathlib.Omega.{arith}
-use lib.Pow.{pow-lt}
+use Rattle.std.proofs.Common.{◌≡◌, refl, Bool, true, false, ℕ, ◌*◌, ◌/◌, ◌%◌, ◌^◌, ◌≤◌, ◌<◌, mod-eq_of_lt, one-mul, arith}
+use Rattle.std.proofs.Math.Pow.{pow-lt}
 use mir.Val.{bool_byte}
 use Rattle.sample_record.specs.declared.Sample.{Sample}
 use Rattle.wire.specs.Bits.{bit_of}

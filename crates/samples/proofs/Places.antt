@@ -1,13 +1,9 @@
 -- The slots hold the records of different events: the sample rule on the events' places. Assumes nothing.
-use mathlib.Core.Path.{◌≡◌, refl, sym, ap, ap₂, ◌∙◌}
-use mathlib.Core.Logic.{◌≢◌}
-use mathlib.Core.Bool.{Bool, true, false}
-use mathlib.Core.List.{List, [], ◌∷◌, ◌++◌, map, map-map}
-use Prim.Native.Nat.{ℕ, zero, suc, ◌+◌, ◌≤◌, ◌<◌, min}
-use native.Mathlib.Numerals.{add-one}
-use native.Mathlib.Omega.{arith}
-use lib.ListN.{length, get_or, take, drop, length-map, length-append}
-use lib.Seq.{append_snoc, get_or-append_seam}
+use Rattle.std.proofs.Common.{◌≡◌, refl, sym, ap, ap₂, ◌∙◌, ◌≢◌, Bool, true, false, List, [], ◌∷◌, ◌++◌, map, ℕ, zero, suc, ◌+◌}
+use Rattle.std.proofs.Common.{◌≤◌, ◌<◌, min, add-one, arith, length, get_or, take, drop, length-append}
+use mathlib.Core.List.{map-map}
+use Rattle.std.proofs.Math.ListN.{length-map}
+use Rattle.std.proofs.Math.Seq.{append_snoc, get_or-append_seam}
 use Rattle.wire.specs.Lists.{All, Distinct, join_if, keep}
 use Rattle.wire.specs.Pieces.{padded}
 use Rattle.settings.specs.declared.Settings.{Settings}

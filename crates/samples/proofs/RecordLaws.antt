@@ -1,8 +1,5 @@
 -- An outcome's box is from 5 to 116; the record of an event is not zero, and has that box. Assumes nothing.
-use mathlib.Core.Path.{◌≡◌}
-use mathlib.Core.Bool.{true}
-use Prim.Native.Nat.{◌≤◌, ◌<◌}
-use native.Mathlib.Omega.{arith}
+use Rattle.std.proofs.Common.{◌≡◌, true, ◌≤◌, ◌<◌, arith}
 use Rattle.sample_record.specs.Record.{SampleFits, record_box}
 use Rattle.sample_record.proofs.RecordLaws.{record_box_lem, record_nonzero}
 use Rattle.sort.specs.declared.event.Event.{Event}

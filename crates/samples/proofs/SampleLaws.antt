@@ -1,18 +1,11 @@
 -- The sample rule goes on from what it left, and placing one record more agrees with it, from any start. Assumes nothing.
-use mathlib.Core.Path.{◌≡◌, refl, sym, ap, ◌∙◌}
-use mathlib.Core.Bool.{Bool, true, false, ◌&&◌, cond}
-use mathlib.Core.List.{List, [], ◌∷◌, ◌++◌, map, append_assoc}
-use Prim.Native.Nat.{ℕ, zero, suc, ◌+◌, ◌-◌, ◌≤◌, ◌<◌, min}
-use native.Mathlib.Nat.{le_of_lt, sub-zero, zero-sub, suc-sub-suc, zero-add}
-use native.Mathlib.Numerals.{add-one}
-use native.Mathlib.Omega.{arith}
-use borrow.Author.Tests.{ltb-true, ltb-false}
-use lib.Dec.{ltb}
-use lib.ListN.{length, set, take, drop, replicate}
-use lib.ListN.{length-take, length-append, length-drop, length-map, drop_of_length-le}
-use lib.Seq.{length-take-le, take_all, take-nil, take_at, take-append-le, drop_at, drop-drop, drop-append-le}
-use lib.Seq.{append_snoc, set_split, paste-zero}
-use Rattle.std.specs.Prelude.{count_by}
+use Rattle.std.proofs.Common.{◌≡◌, refl, sym, ap, ◌∙◌, Bool, true, false, ◌&&◌, cond, List, [], ◌∷◌, ◌++◌, map, append_assoc, ℕ}
+use Rattle.std.proofs.Common.{zero, suc, ◌+◌, ◌-◌, ◌≤◌, ◌<◌, min, le_of_lt, zero-add, add-one, arith, ltb-true, ltb-false, ltb}
+use Rattle.std.proofs.Common.{length, set, take, drop, replicate, length-take, length-append, length-drop, drop_of_length-le}
+use Rattle.std.proofs.Common.{length-take-le, take_all, take_at, drop_at, drop-drop, count_by}
+use Rattle.std.proofs.Math.Nat.{sub-zero, zero-sub, suc-sub-suc}
+use Rattle.std.proofs.Math.ListN.{length-map}
+use Rattle.std.proofs.Math.Seq.{take-nil, take-append-le, drop-append-le, append_snoc, set_split, paste-zero}
 use Rattle.std.specs.List.{filter}
 use Rattle.std.proofs.lemmas.List.Sums.{length-filter}
 use Rattle.wire.specs.Lists.{join_if, keep}

@@ -1,14 +1,10 @@
 -- What a list of events selects: one event more, none, as many slots filled as there are eligible events, up to their number, and each
 -- slot zero or of box 6 to 116. Assumes nothing.
-use mathlib.Core.Path.{◌≡◌, refl, sym, ap, ◌∙◌}
-use mathlib.Core.Bool.{Bool, true, false, ◌&&◌, ◌||◌, cond, false≢true}
-use mathlib.Core.List.{List, [], ◌∷◌, ◌++◌, map, append-nil}
-use Prim.Native.Nat.{ℕ, zero, suc, ◌-◌, ◌≤◌, min}
-use native.Mathlib.Nat.{sub-zero}
-use native.Mathlib.Omega.{arith}
-use borrow.Author.Tests.{lt-ltb, le-leb, leb-true}
-use lib.Dec.{eqb, leb}
-use lib.ListN.{length, replicate, length-map, length-append, length-replicate}
+use Rattle.std.proofs.Common.{◌≡◌, refl, sym, ap, ◌∙◌, Bool, true, false, ◌&&◌, ◌||◌, cond, List, [], ◌∷◌, ◌++◌, map, append-nil, ℕ}
+use Rattle.std.proofs.Common.{zero, suc, ◌-◌, ◌≤◌, min, arith, lt-ltb, le-leb, leb-true, eqb, leb, length, replicate, length-append}
+use Rattle.std.proofs.Math.Bool.{false≢true}
+use Rattle.std.proofs.Math.Nat.{sub-zero}
+use Rattle.std.proofs.Math.ListN.{length-map, length-replicate}
 use Rattle.wire.specs.Bytes.{zeros}
 use Rattle.wire.specs.Lists.{All, all, join_if, keep}
 use Rattle.wire.specs.Pieces.{padded}

@@ -7,7 +7,7 @@ ghost use Rattle.samples.specs.Samples.{filled};
 
 use sample_record::record_good;
 
-// Whether each slot is zero or holds a record of box 6 to 116, without early exit so that the scan vectorises.
+// Whether each slot is zero or holds a record of box 6 to 116, with no `all`, which leaves early: the scan would not be made of vectors.
 pub fn all_good(slots: &[u32]) -> bool
     ensures { result ≡ all record_good slots.now }
 {

@@ -2,7 +2,7 @@
 ghost use Rattle.std.specs.Prelude.{◌≡◌, ◌≤◌, length};
 ghost use Rattle.samples.specs.Samples.{place_of, slots_after, use_after};
 
-// How many slots hold a record, and how many of them a later event replaced.
+// How many slots hold a record, and how many of them a later event replaced. Numbers and no slices: the slots are lent at each call.
 #[derive(Clone, Copy)]
 pub struct SlotUse {
     pub used: usize,

@@ -1,14 +1,10 @@
 -- Laws of the columns: the quotient rounded down, its sign and its range. Assumes nothing.
-use mathlib.Core.Path.{◌≡◌, refl, sym, ap, ◌∙◌}
-use mathlib.Core.Bool.{Bool, true, false}
-use Prim.Native.Nat.{ℕ, zero, suc, ◌+◌, ◌-◌, ◌/◌, ◌^◌, ◌≤◌, ◌<◌}
-use lib.Dec.{ltb, leb→le, ltb→lt}
-use native.Mathlib.Omega.{arith}
-use lib.IntN.{ℤ, pos, negsuc, nat_abs, neg_ℤ, sub_ℕ, ◌+ℤ◌, ◌-ℤ◌, +ℤ_assoc, +ℤ_comm, neg_ℤ-+ℤ}
-use lib.Signed.{◌<ℤ◌, ◌≤ℤ◌, non_neg}
-use mir.ValLaws.{to_z-of_z, to_z_pos}
-use borrow.Author.Tests.{lt-ltb, le-ltb, ltb-true, ltb-false, le-leb, lt-leb}
-use Rattle.std.specs.Prelude.{Some, None}
+use Rattle.std.proofs.Common.{◌≡◌, refl, sym, ap, ◌∙◌, Bool, true, false, ℕ, zero, suc, ◌+◌, ◌-◌, ◌/◌, ◌^◌, ◌≤◌, ◌<◌, ltb, leb→le}
+use Rattle.std.proofs.Common.{ltb→lt, arith, ℤ, pos, negsuc, nat_abs, neg_ℤ, ◌+ℤ◌, ◌-ℤ◌, ◌<ℤ◌, ◌≤ℤ◌, lt-ltb, le-ltb, ltb-true}
+use Rattle.std.proofs.Common.{ltb-false, le-leb, to_z-of_z, Some, None}
+use lib.Signed.{non_neg}
+use borrow.Author.Tests.{lt-leb}
+use Rattle.std.proofs.Math.IntN.{sub_ℕ, +ℤ_assoc, +ℤ_comm, neg_ℤ-+ℤ}
 use Rattle.sort.specs.Columns.{floor_z, u_of, mass_column, energy_column, bounded}
 
 -- ---- signed differences

@@ -1,12 +1,5 @@
 -- Laws of an event's fields and of its outcome. Assumes nothing.
-use mathlib.Core.Path.{◌≡◌, refl}
-use mathlib.Core.Bool.{Bool, true, false, ◌&&◌, cond}
-use mathlib.Core.List.{List}
-use Prim.Native.Nat.{ℕ, ◌+◌, ◌*◌, ◌%◌, ◌≤◌, ◌<◌}
-use lib.ListN.{get_or}
-use native.Mathlib.Omega.{arith}
-use lib.Dec.{leb, ltb}
-use borrow.Author.Tests.{leb-true, ltb-false}
+use Rattle.std.proofs.Common.{◌≡◌, refl, Bool, true, false, ◌&&◌, cond, List, ℕ, ◌+◌, ◌*◌, ◌%◌, ◌≤◌, ◌<◌, get_or, arith, leb, ltb, leb-true, ltb-false}
 use Rattle.wire.proofs.Lists.{and_split}
 use Rattle.settings.specs.declared.Settings.{Settings}
 use Rattle.boxes.specs.Boxes.{box_count, beacon_count, junk_box}

@@ -1,10 +1,14 @@
 // The matrix: 128 by 128 cells of three bytes, the part of the tables from address 8000 on.
-ghost use Rattle.std.specs.Prelude.{◌≡◌, ◌+◌, ◌*◌, ◌≤◌, ◌<◌, length, IfSome};
+ghost use Rattle.std.specs.Prelude.{◌≡◌, ◌≤◌, IfSome};
 ghost use Rattle.boxes.specs.Boxes.{box_count, beacon_count, junk_box};
 ghost use Rattle.sort.specs.Boxes.{CellNames};
-ghost use Rattle.sort.specs.Matrix.{matrix_bytes, cell_of, box_used, beacon_used};
+ghost use Rattle.sort.specs.Matrix.{matrix_of, cell_of, box_used, beacon_used};
 
 use boxes::{JUNK_BOX, LAST_BEACON, LAST_BOX};
+use tables::{MATRIX_END, MATRIX_START, Tables};
+
+// Three bytes a cell.
+pub type Matrix = [u8; MATRIX_END - MATRIX_START];
 
 // What a cell says: a rate box from 7 to 116, the priority, and a beacon from 1 to 12 if it names one.
 #[derive(Clone, Copy)]
@@ -37,10 +41,19 @@ fn beacon_used(n: u8) -> Option<u8>
     }
 }
 
+// The matrix in the tables.
+pub fn matrix_of(tables: &Tables) -> &Matrix
+    ensures { result.now ≡ matrix_of tables.now }
+{
+    let Some(matrix) = tables[MATRIX_START..MATRIX_END].as_array() else {
+        unreachable!()
+    };
+    matrix
+}
+
 // The cell of a mass and an energy column.
 #[tactic(auto, unfolding(crate::specs::Matrix::cell_of))]
-pub fn cell_at(matrix: &[u8], mass: usize, energy: usize) -> Cell
-    requires matrix_len { length matrix.now ≡ matrix_bytes }
+pub fn cell_at(matrix: &Matrix, mass: usize, energy: usize) -> Cell
     requires mass_bound { (mass ≤ 127) × (energy ≤ 127) }
     ensures cell { result ≡ cell_of matrix.now mass energy }
     ensures names { CellNames result }

@@ -1,13 +1,12 @@
 // The table words of an event, and the columns that they make.
-ghost use Rattle.std.specs.Prelude.{◌≡◌, ◌<◌, length};
-ghost use Rattle.tables.specs.Tables.{table_bytes};
+ghost use Rattle.std.specs.Prelude.{◌≡◌, ◌<◌};
 ghost use Rattle.sort.specs.Columns.{mass_column, energy_column, u_of};
 ghost use Rattle.sort.specs.Sorting.{Words, WordsBelow, event_words};
 
 use crate::columns::{difference, floor_div};
 use crate::ranged::Ranged;
 use std::marker::Model;
-use tables::word;
+use tables::{Tables, word};
 
 // The energy word and its offset, the time-of-flight word and its offset, each of 24 bits.
 #[derive(Drop)]
@@ -42,8 +41,7 @@ impl EventWords {
 
     // Rule 2, and T of rule 3: the words, by the gain.
     #[tactic(auto, unfolding(crate::specs::Sorting::event_words))]
-    pub fn of(tables: &[u8], e: Ranged) -> EventWords
-        requires { length tables.now ≡ table_bytes }
+    pub fn of(tables: &Tables, e: Ranged) -> EventWords
         ensures { result ≡ event_words tables.now e }
     {
         let (table, offset) = if e.event.gain() {

@@ -1,9 +1,5 @@
 -- The limits of a state and of its interval as facts, and back; what they say of each count; and what keeps them. Assumes nothing.
-use mathlib.Core.Path.{◌≡◌, refl, ap, ◌∙◌}
-use mathlib.Core.Bool.{Bool, true, false, ◌&&◌, not}
-use Prim.Native.Nat.{ℕ, ◌*◌, ◌≤◌, ◌<◌}
-use native.Mathlib.Omega.{arith}
-use borrow.Author.Tests.{leb-true, le-leb}
+use Rattle.std.proofs.Common.{◌≡◌, refl, ap, ◌∙◌, Bool, true, false, ◌&&◌, not, ℕ, ◌*◌, ◌≤◌, ◌<◌, arith, leb-true, le-leb}
 use Rattle.wire.specs.Lists.{all, at_most, EachBelow}
 use Rattle.wire.proofs.Lists.{and_split, all_at}
 use Rattle.capacity.specs.declared.Numbers.{Numbers}

@@ -1,9 +1,9 @@
 // The interval: what its events and its second readings have come to.
 ghost use Rattle.std.specs.Prelude.{◌≡◌, ◌&&◌};
 ghost use Rattle.wire.specs.Lists.{all, at_most};
-ghost use Rattle.state.specs.Interval.{no_counts, fresh_interval, counts_within, slots_within, readings_within, interval_within};
+ghost use Rattle.state.specs.Interval.{fresh_interval, counts_within, slots_within, readings_within, interval_within};
 
-use boxes::{BEACONS, BOXES, TOTALS};
+use boxes::TOTALS;
 use counts::Counts;
 use samples::slots::SlotUse;
 
@@ -23,22 +23,13 @@ pub const MOST_EVENTS: u32 = 1_000_000;
 
 pub const MOST_READINGS: u32 = 60;
 
-pub fn no_counts() -> Counts
-    ensures { result ≡ no_counts }
-{
-    Counts {
-        boxes: [0; BOXES],
-        beacons: [0; BEACONS],
-    }
-}
-
 // An interval that begins.
 pub fn fresh() -> Interval
     ensures { result ≡ fresh_interval }
 {
     Interval {
         taken: 0,
-        counts: no_counts(),
+        counts: Counts::default(),
         samples: SlotUse {
             used: 0,
             replaced: 0,
@@ -48,7 +39,7 @@ pub fn fresh() -> Interval
     }
 }
 
-// Whether each number is at most the limit, without early exit so that the scan vectorises.
+// Whether each number is at most the limit. No `all`: it leaves early, and the scan would not be made of vectors.
 fn all_at_most(numbers: &[u32], limit: u32) -> bool
     ensures { result ≡ all (at_most limit) numbers.now }
 {

@@ -34,7 +34,7 @@ pub fn fresh(capacity: Capacity) -> State
     State {
         frame: 0,
         interval: interval::fresh(),
-        settings: settings::fresh(),
+        settings: Settings::fresh(),
         commands: CommandList::fresh(),
         staging: Addresses::fresh(),
         capacity,

@@ -22,7 +22,7 @@ pub fn within_limits(state: &State) -> bool
 {
     let numbers = capacity::numbers_of(state.capacity);
     state.interval.within(numbers.slots)
-        & settings::within(state.settings, numbers.limhi)
+        & state.settings.within(numbers.limhi)
         & state.commands.within(ranges_of(state))
         & state.staging.within()
 }

@@ -2,3 +2,4 @@
 pub mod Start
 pub mod Kind
 pub mod Record
+pub mod Run

@@ -1,5 +1,7 @@
 // The kinds of records.
-ghost use Rattle.stream.specs.Kind.{Decodes};
+ghost use Rattle.std.specs.Prelude.{◌≤◌, unwrap_or};
+ghost use Rattle.stream.specs.Kind.{Decodes, kind_number};
+ghost use Rattle.stream.specs.Record.{LongAs};
 
 // What the programs read, each by the number of its kind byte. Minute knows the first four.
 #[derive(Clone, Copy, PartialEq, Eq)]
@@ -18,6 +20,27 @@ pub enum Kind {
     State = 20,
     Show = 21,
     Slots = 22,
+}
+
+// The lengths of the bodies.
+pub const EVENT_BYTES: usize = 7;
+
+pub const READING_BYTES: usize = 16;
+
+pub const CLOSE_BYTES: usize = 4;
+
+impl Kind {
+    // The length of its body, where that is the same in both programs.
+    pub fn fixed_bytes(self) -> Option<usize>
+        ensures { (unwrap_or result 0 ≤ 16) × LongAs (kind_number self) (unwrap_or result 0) }
+    {
+        match self {
+            Kind::Event => Some(EVENT_BYTES),
+            Kind::Reading => Some(READING_BYTES),
+            Kind::Close => Some(CLOSE_BYTES),
+            _ => None,
+        }
+    }
 }
 
 // No kind, or a body that is short or wrong.

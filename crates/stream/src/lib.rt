@@ -4,4 +4,5 @@
 pub mod kind;
 pub mod record;
 pub mod run;
+pub mod session;
 pub mod start;

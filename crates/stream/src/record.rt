@@ -1,16 +1,18 @@
 // The bodies of the records that both programs read.
-ghost use Rattle.std.specs.Prelude.{◌≡◌, ◌+◌, ◌≤◌, ◌<◌, length, get_or, unwrap_or};
+ghost use Rattle.std.specs.Prelude.{◌≡◌, ◌+◌, ◌≤◌, ◌<◌, length, get_or, IfOk};
 ghost use Rattle.causes.specs.Causes.{call_number};
+ghost use Rattle.wire.specs.Bytes.{at32};
+ghost use Rattle.processor.specs.Close.{close_done};
 ghost use Rattle.processor.specs.Reading.{reading_done};
 ghost use Rattle.buffered.specs.Input.{input_bytes};
 ghost use Rattle.stream.specs.Kind.{kind_number};
-ghost use Rattle.stream.specs.Record.{LongAs, FoundIn, IsOf, body_in, event_of, record_done, counts_in};
+ghost use Rattle.stream.specs.Record.{FoundIn, IsOf, body_in, event_of, record_done, counts_in};
 
 use crate::kind::{BadRecord, Kind};
+use crate::session::Session;
 use boxes::TOTALS;
-use buffered::input::Input;
-use buffered::text::Text;
 use causes::{Cause, check};
+use output::Summary;
 use sort::event::Event;
 use state::State;
 use wire::bits::is_set;
@@ -37,35 +39,16 @@ impl Record {
     }
 }
 
-// The lengths of the bodies.
-pub const EVENT_BYTES: usize = 7;
-
-pub const READING_BYTES: usize = 16;
-
-pub const CLOSE_BYTES: usize = 4;
-
-// The length of a kind's body, where that is the same in both programs.
-pub fn fixed_bytes(kind: Kind) -> Option<usize>
-    ensures { (unwrap_or result 0 ≤ 16) × LongAs (kind_number kind) (unwrap_or result 0) }
-{
-    match kind {
-        Kind::Event => Some(EVENT_BYTES),
-        Kind::Reading => Some(READING_BYTES),
-        Kind::Close => Some(CLOSE_BYTES),
-        _ => None,
-    }
-}
-
 // The next record, whose body is the n bytes behind its first `head` ones.
-pub fn whole(input: &mut Input, kind: Kind, head: usize, n: usize, text: &mut Text) -> Next
+pub fn whole(session: &mut Session, kind: Kind, head: usize, n: usize) -> Next
     requires le_head { (1 ≤ head) × (head + n ≤ input_bytes) }
-    requires at_lt_end { (0 < length input.old) × (get_or input.old 0 0 ≡ kind_number kind) }
-    ensures found_in { FoundIn result input.old input.new }
+    requires at_lt_end { (0 < length session.old.input) × (get_or session.old.input 0 0 ≡ kind_number kind) }
+    ensures found_in { FoundIn result session.old.input session.new.input }
     ensures of { IsOf (kind_number kind) head n result }
 {
     let to = head + n;
-    input.fill(to, text);
-    if input.waiting().len() < to {
+    session.fill(to);
+    if session.waiting().len() < to {
         return Err(BadRecord);
     }
     Ok(Some(Record {
@@ -86,6 +69,8 @@ const STOP: u8 = 8;
 
 const LAST_FLAGS: u8 = 15;
 
+// A body is a slice of the length that its kind has. As an array each call would begin with a branch for other lengths, which no
+// body has.
 #[tactic(auto, unfolding(crate::specs::Record::event_of))]
 fn event_in(body: &[u8]) -> Event
     requires { length body.now ≡ 7 }
@@ -115,6 +100,7 @@ pub fn event(state: &mut State, tables: &[u8], slots: &mut [u32], body: &[u8]) -
     processor::event::event(state, tables, slots, event_in(body))
 }
 
+// Eight counts. No `array::from_fn`: its closure would need a contract for each place, longer than these lines.
 fn counts_in(body: &[u8]) -> [u16; TOTALS]
     requires { length body.now ≡ 16 }
     ensures { result ≡ counts_in body.now }
@@ -138,4 +124,30 @@ pub fn reading(state: &mut State, body: &[u8]) -> Result<(), Cause>
     ensures state { state.new ≡ (reading_done state.old (counts_in body.now)).state }
 {
     processor::reading::reading(state, counts_in(body))
+}
+
+// The end of an interval, its packets written into `out`.
+pub fn close(
+    state: &mut State,
+    tables: &mut [u8],
+    staging: &[u8],
+    slots: &mut [u32],
+    body: &[u8],
+    out: &mut [u8],
+) -> Result<Summary, Cause>
+    requires { length body.now ≡ 4 }
+    ensures number { call_number result
+        ≡ (close_done state.old (at32 body.now 0) tables.old staging.now slots.old out.old).answer.number }
+    ensures state { state.new
+        ≡ (close_done state.old (at32 body.now 0) tables.old staging.now slots.old out.old).answer.state }
+    ensures summary { IfOk result (λ summary. summary
+        ≡ (close_done state.old (at32 body.now 0) tables.old staging.now slots.old out.old).answer.summary) }
+    ensures tables { tables.new
+        ≡ (close_done state.old (at32 body.now 0) tables.old staging.now slots.old out.old).tables }
+    ensures slots { slots.new
+        ≡ (close_done state.old (at32 body.now 0) tables.old staging.now slots.old out.old).slots }
+    ensures out { out.new
+        ≡ (close_done state.old (at32 body.now 0) tables.old staging.now slots.old out.old).out }
+{
+    processor::close::close(state, u32::read(body, 0), tables, staging, slots, out)
 }

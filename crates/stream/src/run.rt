@@ -5,7 +5,7 @@ ghost use Rattle.stream.specs.declared.record.Record.{Record};
 
 use crate::kind::BadRecord;
 use crate::record::{Next, Record};
-use buffered::input::Input;
+use crate::session::Session;
 use buffered::text::Text;
 
 // A program that carries out one record after the other.
@@ -14,8 +14,8 @@ pub trait Program {
     ghost lies: { Result (Option Record) BadRecord → List ℕ → Type 0 };
 
     // The record that stands next in the input.
-    fn next(input: &mut Input, text: &mut Text) -> Next
-        ensures { lies result input.new };
+    fn next(session: &mut Session) -> Next
+        ensures { lies result session.new.input };
 
     // What was found is carried out, and printed. How many bytes of those that wait are used then; none at the end of the
     // input.
@@ -31,20 +31,20 @@ pub trait Program {
 
 // Carries out record after record until the input ends, a record is bad, or a read or a write fails. Nothing says that the
 // input ends, so the turns are counted, up to a number that no run uses up.
-pub fn run<P: Program>(program: &mut P, input: &mut Input, text: &mut Text) {
+pub fn run<P: Program>(program: &mut P, session: &mut Session) {
     for _ in 0..u64::MAX {
-        let found = P::next(input, text);
-        match program.step(found, input.waiting(), text) {
-            Ok(Some(used)) => input.skip(used),
+        let found = P::next(session);
+        match program.step(found, session.input.waiting(), &mut session.text) {
+            Ok(Some(used)) => session.input.skip(used),
             Ok(None) => break,
             Err(BadRecord) => {
-                text.bad_record();
+                session.text.bad_record();
                 break;
             }
         }
-        if text.failed() {
+        if session.text.failed() {
             break;
         }
     }
-    text.flush();
+    session.text.flush();
 }

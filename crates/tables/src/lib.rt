@@ -1,8 +1,8 @@
 // The lookup tables: 20,995 words of 24 bits in a lent buffer, by their hexadecimal addresses.
 #![tactic(auto)]
 
-ghost use Rattle.std.specs.Prelude.{◌≡◌, ◌≤◌, ◌<◌, length};
-ghost use Rattle.tables.specs.Tables.{first, end, table_bytes, word_at};
+ghost use Rattle.std.specs.Prelude.{◌≡◌, ◌≤◌, ◌<◌};
+ghost use Rattle.tables.specs.Tables.{first, end, word_at};
 
 // The address of the first word and the one after the last.
 pub const FIRST: usize = 0x7000;
@@ -11,6 +11,8 @@ pub const END: usize = 0xC203;
 
 // The buffer's length: three bytes for each word.
 pub const TABLE_BYTES: usize = 62985;
+
+pub type Tables = [u8; TABLE_BYTES];
 
 // The four tables, and the offsets behind them.
 pub const HIGH_GAIN: usize = 0x7000;
@@ -33,8 +35,7 @@ pub const MATRIX_START: usize = 12288;
 pub const MATRIX_END: usize = 61440;
 
 // The word at an address.
-pub fn word(tables: &[u8], address: usize) -> u32
-    requires tables_len { length tables.now ≡ table_bytes }
+pub fn word(tables: &Tables, address: usize) -> u32
     requires first_le_address { (first ≤ address) × (address < end) }
     ensures { (result ≡ word_at tables.now address) × (result < 16777216) }
 {

@@ -1,10 +1,7 @@
 -- What an event that is taken has passed, and that it leaves the interval within its limits. Assumes nothing.
-use mathlib.Core.Path.{◌≡◌, refl, sym}
-use mathlib.Core.Bool.{Bool, true, false, ◌&&◌, cond}
-use Prim.Native.Nat.{ℕ, ◌+◌, ◌≤◌, ◌<◌}
-use native.Mathlib.Omega.{arith}
-use borrow.Author.Tests.{eqb-true, ltb-true}
-use lib.Dec.{ltb}
+use Rattle.std.proofs.Common.{◌≡◌, refl, sym, Bool, true, false, ◌&&◌, cond, ℕ, ◌+◌, ◌≤◌, ◌<◌, arith, eqb-true, ltb-true, ne_eqb}
+use Rattle.std.proofs.Common.{ltb}
+use Rattle.causes.specs.Causes.{buffer_or_state}
 use Rattle.causes.proofs.CheckLaws.{all_passed}
 use Rattle.wire.proofs.Lists.{and_split}
 use Rattle.capacity.specs.Capacity.{numbers_of}
@@ -46,6 +43,15 @@ event_taken s tables slots e h =
       range = p.1.0;
       room = ltb-true _ _ p.1.1.0;
     }
+
+-- tables of another length are refused, whatever else applies
+pub other_tables : (s : State) (tables slots : ℕ) (e : Event) → (tables ≡ table_bytes → ⊥) → event_number s tables slots e ≡ buffer_or_state
+unfolding event_number
+other_tables s tables slots e h = rw (ne_eqb tables table_bytes h) (go (within_limits s) _)
+  where
+    go : (b : Bool) (n : ℕ) → cond (b && false) n 1 ≡ 1
+    go true n = refl
+    go false n = refl
 
 -- a slot is used more only below their number, and either number rises by one at most
 used_most : (N : ℕ) (x y z : Bool) (u : SlotUse) → x ≡ ltb u.used N → u.used ≤ N

@@ -1,7 +1,7 @@
 // One event: whether it is taken, and what it makes of the state and the slots.
 #![tactic(auto)]
 
-ghost use Rattle.std.specs.Prelude.{◌≡◌, true, ◌<◌, length};
+ghost use Rattle.std.specs.Prelude.{◌≡◌, true, ◌<◌, length, IfOk};
 ghost use Rattle.causes.specs.Causes.{call_number};
 ghost use Rattle.capacity.specs.Capacity.{numbers_of};
 ghost use Rattle.tables.specs.Tables.{table_bytes};
@@ -19,22 +19,41 @@ use sort::ranged::Ranged;
 use state::State;
 use state::interval::MOST_EVENTS;
 use state::limits::within_limits;
+use tables::Tables;
 
-// Whether the event is taken, by the lengths of the tables and the slots.
+// Whether the event is taken where the tables have their length, by the number of slots.
 #[tactic(auto, unfolding(crate::specs::Event::event_number))]
-pub fn judge(state: &State, tables: usize, slots: usize, event: Event) -> Result<(), Cause>
-    ensures { call_number result ≡ event_number state.now tables slots event }
+fn judge_event(state: &State, slots: usize, event: Event) -> Result<(), Cause>
+    ensures { call_number result ≡ event_number state.now table_bytes slots event }
 {
     let numbers = capacity::numbers_of(state.capacity);
-    let lent = (tables == tables::TABLE_BYTES) & (slots == numbers.slots);
+    let lent = slots == numbers.slots;
     check(within_limits(state) & lent, Cause::BufferOrState)?;
     check(event.in_range(), Cause::FieldRange)?;
     check(state.interval.taken < MOST_EVENTS, Cause::IntervalFull)
 }
 
-// One event more in the state and the slots.
-pub fn take_event(state: &mut State, tables: &[u8], slots: &mut [u32], event: Event)
-    requires tables_len { (length tables.now ≡ table_bytes) × (length slots.old ≡ (numbers_of state.old.capacity).slots) }
+// The tables, of their length, where the event is taken; by the number of slots.
+#[tactic(auto, using(crate::proofs::EventLaws::other_tables))]
+pub fn judge<'a>(
+    state: &State,
+    tables: &'a [u8],
+    slots: usize,
+    event: Event,
+) -> Result<&'a Tables, Cause>
+    ensures number { call_number result ≡ event_number state.now (length tables.now) slots event }
+    ensures tables { IfOk result (λ t. t.now ≡ tables.now) }
+{
+    let Ok(tables) = <&Tables>::try_from(tables) else {
+        return Err(Cause::BufferOrState);
+    };
+    judge_event(state, slots, event)?;
+    Ok(tables)
+}
+
+// One event more in the state and the slots. Any state may be lent: its limits are judged before, and are no invariant.
+pub fn take_event(state: &mut State, tables: &Tables, slots: &mut [u32], event: Event)
+    requires slots_len { length slots.old ≡ (numbers_of state.old.capacity).slots }
     requires state_value { within_limits state.old ≡ true }
     requires event_value { (in_range event ≡ true) × (state.old.interval.taken < most_events) }
     ensures state { state.new

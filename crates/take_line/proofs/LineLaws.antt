@@ -1,8 +1,5 @@
--- What a line that is accepted has passed, check by check, and the numbers that refuse it. Assumes nothing.
-use mathlib.Core.Path.{◌≡◌, refl}
-use mathlib.Core.Bool.{Bool, true, false, ◌&&◌, not, cond}
-use Prim.Native.Nat.{ℕ}
-use lib.Dec.{leb}
+-- What a line that is accepted has passed, check by check. Assumes nothing.
+use Rattle.std.proofs.Common.{◌≡◌, refl, Bool, true, ◌&&◌, not, ℕ}
 use Rattle.causes.specs.Checks.{number_by}
 use Rattle.causes.proofs.CheckLaws.{all_passed}
 use Rattle.command.specs.declared.command.Line.{Line}
@@ -23,18 +20,3 @@ pub command_accepts : (waits full good : Bool) (sum : ℕ) (l : Line) → number
 command_accepts waits full good sum l h =
     let p = all_passed (command_checks waits full good sum l) refl h in
     record { right = p.0; free = p.1.0; room = p.1.1.0; sound = p.1.1.1.0; agrees = p.1.1.1.1.0 }
-
--- a number of a command that is not 0 is 5 or above
-pub command_five : (waits full good : Bool) (sum : ℕ) (l : Line) → (number_by (command_checks waits full good sum l) ≡ 0 → ⊥)
-    → leb 5 (number_by (command_checks waits full good sum l)) ≡ true
-command_five waits full good sum l h =
-    go (not (traits_of l).wrong) (not ((traits_of l).staging && waits)) (not ((traits_of l).command && full)) (not ((traits_of l).load && not good)) (sum_agrees (traits_of l).sum sum) h
-  where
-    go : (a b c d e : Bool) → (◌≡◌ {A = ℕ} (cond a (cond b (cond c (cond d (cond e 0 16) 15) 7) 6) 5) 0 → ⊥)
-        → leb 5 (cond a (cond b (cond c (cond d (cond e 0 16) 15) 7) 6) 5) ≡ true
-    go true true true true true h = absurd (h refl)
-    go true true true true false h = refl
-    go true true true false e h = refl
-    go true true false d e h = refl
-    go true false c d e h = refl
-    go false b c d e h = refl

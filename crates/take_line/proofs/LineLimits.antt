@@ -1,9 +1,5 @@
 -- An accepted line leaves a state within its limits. Assumes nothing.
-use mathlib.Core.Path.{◌≡◌, ap}
-use mathlib.Core.Bool.{Bool, true, not}
-use mathlib.Core.List.{List}
-use Prim.Native.Nat.{ℕ}
-use lib.ListN.{length}
+use Rattle.std.proofs.Common.{◌≡◌, ap, Bool, true, not, List, ℕ, length}
 use Rattle.causes.specs.Checks.{number_by}
 use Rattle.load.specs.declared.staging.Addresses.{Addresses}
 use Rattle.load.specs.Staging.{addresses_within}

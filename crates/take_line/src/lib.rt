@@ -4,8 +4,7 @@
 ghost use Rattle.std.specs.Prelude.{◌≡◌, true, not, ◌&&◌, cond, ◌≤◌, length, IfOk};
 ghost use Rattle.causes.specs.Causes.{call_number};
 ghost use Rattle.causes.specs.Checks.{number_by};
-ghost use Rattle.echo.specs.Echo.{echo_bytes};
-ghost use Rattle.load.specs.Bitmap.{bitmap_bytes, none_bad, staged_sum};
+ghost use Rattle.load.specs.Bitmap.{none_bad, staged_sum};
 ghost use Rattle.load.specs.Staging.{staging_bytes};
 ghost use Rattle.command.specs.Asked.{traits_of};
 ghost use Rattle.command.specs.Grammar.{bytes_ok};
@@ -18,13 +17,20 @@ ghost use Rattle.take_line.specs.Judged.{JudgedAs};
 use causes::{Cause, check};
 use command::command::Line;
 use command::traits::{Traits, sum_agrees, traits_of};
-use load::staging::Addresses;
+use echo::Echo;
+use load::bitmap::Bitmap;
+use load::staging::{Addresses, Staging};
 use state::State;
 
 // The cause 15 or 16 of a line about a load, or the sum that it returns: that of the staged bytes for an ask. Staging is
 // read once, and only where no byte is bad.
-fn judge_staged(traits: Traits, staging: &[u8], bitmap: &[u8], reach: u32) -> Result<u32, Cause>
-    requires staging_len { (length staging.now ≡ staging_bytes) × (length bitmap.now ≡ bitmap_bytes) × (reach ≤ staging_bytes) }
+fn judge_staged(
+    traits: Traits,
+    staging: &Staging,
+    bitmap: &Bitmap,
+    reach: u32,
+) -> Result<u32, Cause>
+    requires reach_bound { reach ≤ staging_bytes }
     requires load_value { traits.load ≡ true }
     ensures { JudgedAs result (staged_checks (none_bad bitmap.now reach) (staged_sum staging.now reach) traits)
         (cond traits.ask (staged_sum staging.now reach) 0) }
@@ -42,11 +48,11 @@ fn judge(
     waits: bool,
     full: bool,
     line: Line,
-    staging: &[u8],
-    bitmap: &[u8],
+    staging: &Staging,
+    bitmap: &Bitmap,
     reach: u32,
 ) -> Result<u32, Cause>
-    requires { (length staging.now ≡ staging_bytes) × (length bitmap.now ≡ bitmap_bytes) × (reach ≤ staging_bytes) }
+    requires { reach ≤ staging_bytes }
     ensures { JudgedAs result (command_checks waits full (none_bad bitmap.now reach) (staged_sum staging.now reach) line)
         (sum_returned line (staged_sum staging.now reach)) }
 {
@@ -60,7 +66,7 @@ fn judge(
     judge_staged(traits, staging, bitmap, reach)
 }
 
-// The staging addresses after an accepted line.
+// The staging addresses after an accepted line. A `match`: two lines move them, each in its own way.
 fn addresses_after_line(addresses: Addresses, line: Line) -> Addresses
     ensures { result ≡ addresses_after_line addresses line }
 {
@@ -86,8 +92,8 @@ fn accept(state: &mut State, line: Line)
 }
 
 // The echo of an accepted line.
-fn write_echo(frame: u16, accepted: usize, line: &[u8], echo: &mut [u8])
-    requires echo_len { (length echo.old ≡ echo_bytes) × (length line.now ≤ 80) }
+fn write_echo(frame: u16, accepted: usize, line: &[u8], echo: &mut Echo)
+    requires line_len { length line.now ≤ 80 }
     requires accepted_le_most_commands { accepted ≤ most_commands }
     ensures { echo.new ≡ line_echo frame accepted line.now }
 {
@@ -99,16 +105,15 @@ fn write_echo(frame: u16, accepted: usize, line: &[u8], echo: &mut [u8])
 }
 
 // A line whose bytes are right: 5, 6, 7, 15 or 16 with the error echo, or the sum that it returns, with the command waiting
-// or carried out.
+// or carried out. Any state may be lent: its limits are judged before, and are no invariant.
 pub fn take_line(
     state: &mut State,
     line: &[u8],
-    staging: &[u8],
-    bitmap: &[u8],
-    echo: &mut [u8],
+    staging: &Staging,
+    bitmap: &Bitmap,
+    echo: &mut Echo,
 ) -> Result<u32, Cause>
-    requires staging_len { (length staging.now ≡ staging_bytes) × (length bitmap.now ≡ bitmap_bytes) }
-    requires echo_len { (length echo.old ≡ echo_bytes) × (length line.now ≤ 80) }
+    requires line_len { length line.now ≤ 80 }
     requires state_value { (within_limits state.old ≡ true) × (bytes_ok line.now ≡ true) }
     ensures number { call_number result
         ≡ (line_by (number_by (state_checks state.old line.now staging.now bitmap.now)) state.old

@@ -1,10 +1,5 @@
 -- What a package that is staged has passed, check by check. Assumes nothing.
-use mathlib.Core.Path.{◌≡◌, refl}
-use mathlib.Core.Bool.{Bool, true, false, ◌&&◌, not, cond}
-use mathlib.Core.List.{List, [], ◌∷◌}
-use Prim.Native.Nat.{ℕ}
-use borrow.Author.Tests.{eqb-true}
-use lib.Dec.{eqb}
+use Rattle.std.proofs.Common.{◌≡◌, refl, Bool, true, false, ◌&&◌, not, cond, List, [], ◌∷◌, ℕ, eqb-true, eqb}
 use Rattle.causes.specs.Causes as cause
 use Rattle.causes.specs.Checks.{Check, number_by}
 use Rattle.causes.proofs.CheckLaws.{passed_first}

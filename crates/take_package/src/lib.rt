@@ -1,53 +1,36 @@
 // One load package: whether it is staged, its echo, and what it makes of the state, staging and bitmap.
 #![tactic(auto)]
 
-ghost use Rattle.std.specs.Prelude.{◌≡◌, true, cond, length};
-ghost use Rattle.causes.specs.Causes.{call_number, carried_out, package_sum};
-ghost use Rattle.echo.specs.Echo.{echo_bytes};
-ghost use Rattle.load.specs.Bitmap.{bitmap_bytes, bitmap_after};
-ghost use Rattle.load.specs.Staging.{staging_bytes, payload_bytes, fits, staging_after, addresses_after};
+ghost use Rattle.std.specs.Prelude.{◌≡◌, true, cond};
+ghost use Rattle.causes.specs.Causes.{carried_out, package_sum};
+ghost use Rattle.load.specs.Bitmap.{bitmap_after};
+ghost use Rattle.load.specs.Staging.{payload_bytes, fits, staging_after, addresses_after};
 ghost use Rattle.state.specs.State.{with_staging};
-ghost use Rattle.take_package.specs.Package.{is_staged, package_call_number, staged_echo};
+ghost use Rattle.take_package.specs.Package.{staged_echo};
+ghost use Rattle.take_package.specs.Judged.{JudgedAs};
 
 use causes::{Cause, check};
+use echo::Echo;
+use load::bitmap::Bitmap;
 use load::package::Package;
+use load::staging::Staging;
 use state::State;
 
-// Whether the package is placed with a right sum, by the lengths of staging, bitmap and echo.
-#[tactic(auto, unfolding(crate::specs::Package::package_call_number, load::specs::Staging::package_number))]
-pub fn judge(
-    state: &State,
-    bytes: &[u8],
-    staging: usize,
-    bitmap: usize,
-    echo: usize,
-) -> Result<(), Cause>
-    ensures { call_number result ≡ package_call_number state.now bytes.now staging bitmap echo }
+// The package, where it is staged: its sum may be wrong.
+#[tactic(auto, unfolding(crate::specs::Package::package_call_number))]
+pub fn judge<'a>(state: &State, bytes: &'a [u8]) -> Result<Package<'a>, Cause>
+    ensures { JudgedAs result state.now bytes.now }
 {
-    let lent = (staging == load::staging::STAGING_BYTES)
-        & (bitmap == load::bitmap::BITMAP_BYTES)
-        & (echo == echo::ECHO_BYTES);
-    check(
-        state::limits::within_limits(state) & lent,
-        Cause::BufferOrState,
-    )?;
+    check(state::limits::within_limits(state), Cause::BufferOrState)?;
     check(!state.commands.load_waits(), Cause::LoadWaiting)?;
-    load::package::judge(bytes, state.staging.next)
+    let sent = Package::parse(bytes)?;
+    check(sent.fits(state.staging.next), Cause::PastStaging)?;
+    Ok(sent)
 }
 
-// A package's bytes go to staging where it is right, and also where its sum is wrong.
-pub fn is_staged(judged: Result<(), Cause>) -> bool
-    ensures { result ≡ is_staged (call_number judged) }
-{
-    match judged {
-        Ok(()) => true,
-        Err(cause) => cause == Cause::PackageSum,
-    }
-}
-
-// The echo of a package that is staged, with OK or with both sums where its sum is wrong.
-pub fn echo_staged(wrong: bool, next: u32, sent: &Package, echo: &mut [u8])
-    requires { length echo.old ≡ echo_bytes }
+// The echo of a package that is staged, with OK or with both sums where its sum is wrong. Whether it is, is handed on: the sum of
+// a package is worked out once.
+pub fn echo_staged(wrong: bool, next: u32, sent: &Package, echo: &mut Echo)
     ensures { echo.new ≡ staged_echo (cond wrong package_sum carried_out) next sent.now.bytes.now }
 {
     let many = sent.payload_bytes();
@@ -61,9 +44,14 @@ pub fn echo_staged(wrong: bool, next: u32, sent: &Package, echo: &mut [u8])
 }
 
 // The package's bytes go to staging, its bits are set or cleared as its sum is wrong or right, and both addresses move.
-pub fn stage(state: &mut State, wrong: bool, sent: &Package, staging: &mut [u8], bitmap: &mut [u8])
-    requires staging_len { (length staging.old ≡ staging_bytes) × (length bitmap.old ≡ bitmap_bytes) }
-    requires next_value { fits sent.now.bytes.now state.old.staging.next ≡ true }
+pub fn stage(
+    state: &mut State,
+    wrong: bool,
+    sent: &Package,
+    staging: &mut Staging,
+    bitmap: &mut Bitmap,
+)
+    requires { fits sent.now.bytes.now state.old.staging.next ≡ true }
     ensures state { state.new ≡ with_staging state.old (addresses_after state.old.staging sent.now.bytes.now) }
     ensures staging { staging.new ≡ staging_after staging.old state.old.staging.next sent.now.bytes.now }
     ensures bitmap { bitmap.new

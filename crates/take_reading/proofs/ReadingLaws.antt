@@ -1,11 +1,5 @@
 -- What a reading that is taken has passed, and that it leaves the interval within its limits. Assumes nothing.
-use mathlib.Core.Path.{◌≡◌, refl}
-use mathlib.Core.Bool.{true}
-use mathlib.Core.List.{List}
-use Prim.Native.Nat.{ℕ, ◌+◌, ◌*◌, ◌<◌}
-use native.Mathlib.Omega.{arith}
-use borrow.Author.Tests.{ltb-true}
-use lib.ListN.{get_or}
+use Rattle.std.proofs.Common.{◌≡◌, refl, true, List, ℕ, ◌+◌, ◌*◌, ◌<◌, arith, ltb-true, get_or}
 use Rattle.causes.proofs.CheckLaws.{all_passed}
 use Rattle.wire.specs.Lists.{EachBelow}
 use Rattle.wire.proofs.Lists.{all_at}

@@ -23,7 +23,8 @@ pub fn judge(state: &State) -> Result<(), Cause>
     check(state.interval.readings < MOST_READINGS, Cause::IntervalFull)
 }
 
-// Each count added to its total: a reading has as many counts as there are totals.
+// Each count added to its total: a reading has as many counts as there are totals. By place: by
+// `zip` the proof did not close.
 fn add(totals: &mut [u32; TOTALS], counts: [u16; TOTALS])
     requires { EachBelow 4000000 totals.old }
     ensures { totals.new ≡ added_totals totals.old counts }
@@ -33,7 +34,7 @@ fn add(totals: &mut [u32; TOTALS], counts: [u16; TOTALS])
     }
 }
 
-// One reading more in the state.
+// One reading more in the state. Any state may be lent: its limits are judged before, and are no invariant.
 pub fn take_reading(state: &mut State, counts: [u16; TOTALS])
     requires { (within_limits state.old ≡ true) × (state.old.interval.readings < most_readings) }
     ensures { state.new

@@ -1,11 +1,6 @@
 -- Laws of one call from any world, reached or not: limits are kept, a refused call leaves all, and settings and tables change in a close
 -- alone. Assumes nothing.
-use mathlib.Core.Path.{◌≡◌, ap}
-use mathlib.Core.Bool.{true, false}
-use mathlib.Core.List.{List, []}
-use Prim.Native.Nat.{ℕ}
-use lib.Dec.{leb}
-use lib.ListN.{length}
+use Rattle.std.proofs.Common.{◌≡◌, ap, true, false, List, [], ℕ, leb, length}
 use Rattle.causes.specs.Causes.{wrong_line}
 use Rattle.command_list.specs.CommandList.{most_commands}
 use Rattle.state.specs.Limits.{within_limits}

@@ -1,9 +1,5 @@
 -- What follows from demand 3 for the next call after any lawful list: when each number comes. Assumes nothing.
-use mathlib.Core.Path.{◌≡◌, refl, sym, ap, ◌∙◌, subst}
-use mathlib.Core.Bool.{true}
-use mathlib.Core.List.{List, []}
-use Prim.Native.Nat.{ℕ}
-use lib.ListN.{length}
+use Rattle.std.proofs.Common.{◌≡◌, refl, sym, ap, ◌∙◌, subst, true, List, [], ℕ, length}
 use Rattle.sort.specs.declared.event.Event.{Event}
 use Rattle.capacity.specs.declared.Capacity.{Capacity}
 use Rattle.output.specs.Output.{span_bytes}

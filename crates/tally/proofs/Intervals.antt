@@ -1,8 +1,5 @@
 -- A close that is carried out returns the tally's counts, and its sample packets hold the tally's slots. Assumes nothing.
-use mathlib.Core.Path.{◌≡◌, refl}
-use Prim.Native.Nat.{ℕ}
-use native.Mathlib.Omega.{arith}
-use lib.ListN.{length}
+use Rattle.std.proofs.Common.{◌≡◌, refl, ℕ, arith, length}
 use Rattle.wire.proofs.Pieces.{length_table}
 use Rattle.boxes.specs.Boxes.{box_count, beacon_count, total_count}
 use Rattle.capacity.proofs.NumberLaws.{slots_in_packets}

@@ -1,12 +1,6 @@
 -- What holds of the tally at every moment: its state is within its limits, its events are in range, what is staged is known, hvstep is a
 -- byte, and tables, staging and bitmap keep their lengths. Assumes nothing.
-use mathlib.Core.Path.{◌≡◌}
-use mathlib.Core.Bool.{true}
-use mathlib.Core.List.{List, [], ◌∷◌, ◌++◌}
-use Prim.Native.Nat.{ℕ, ◌≤◌, ◌<◌}
-use native.Mathlib.Omega.{arith}
-use borrow.Author.Tests.{leb-true}
-use lib.ListN.{length}
+use Rattle.std.proofs.Common.{◌≡◌, true, List, [], ◌∷◌, ◌++◌, ℕ, ◌≤◌, ◌<◌, arith, leb-true, length}
 use Rattle.settings.specs.declared.Settings.{Settings}
 use Rattle.wire.specs.Lists.{All}
 use Rattle.capacity.proofs.NumberLaws.{limhi_slots}

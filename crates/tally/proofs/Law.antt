@@ -1,12 +1,9 @@
 -- What is to be shown of one request, by what it makes of a world and what the tally makes of it, and what follows for a call: no word
 -- of any request. Assumes nothing.
-use mathlib.Core.Path.{◌≡◌, refl, sym, ap, ◌∙◌, subst}
-use mathlib.Core.Bool.{true, false, true≢false, false≢true}
-use mathlib.Core.List.{[]}
-use Prim.Native.Nat.{ℕ, ◌+◌}
-use native.Mathlib.Nat.{zero-add}
-use native.Mathlib.Omega.{arith}
-use lib.ListN.{length, length-append, length-replicate}
+use Rattle.std.proofs.Common.{◌≡◌, refl, sym, ap, ◌∙◌, subst, true, false, true≢false, [], ℕ, ◌+◌, zero-add, arith, length}
+use Rattle.std.proofs.Common.{length-append}
+use Rattle.std.proofs.Math.Bool.{false≢true}
+use Rattle.std.proofs.Math.ListN.{length-replicate}
 use Rattle.wire.specs.Bytes.{total}
 use Rattle.wire.proofs.Lists.{decide}
 use Rattle.command_list.specs.CommandList.{most_commands, command_list_with}

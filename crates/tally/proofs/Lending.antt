@@ -1,8 +1,6 @@
 -- What is lent: own or another. Assumes nothing.
-use mathlib.Core.Path.{◌≡◌, refl, sym, subst}
-use mathlib.Core.Bool.{true, false≢true}
-use mathlib.Core.List.{List, [], ◌∷◌}
-use Prim.Native.Nat.{ℕ}
+use Rattle.std.proofs.Common.{◌≡◌, refl, sym, subst, true, List, [], ◌∷◌, ℕ}
+use Rattle.std.proofs.Math.Bool.{false≢true}
 use Rattle.wire.specs.Lists.{All, all}
 use Rattle.wire.proofs.Lists.{and_split}
 use Rattle.tally.specs.World.{Buffers, list_of, zip_each, World, Lent, own, other, found, kept, is_own, as_lent, as_left}

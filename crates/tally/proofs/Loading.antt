@@ -1,10 +1,5 @@
 -- Whether a commit waits, and what the waiting commands make of the tables then: no word of a tally. Assumes nothing.
-use mathlib.Core.Path.{◌≡◌, refl, ap, ◌∙◌}
-use mathlib.Core.List.{List, [], ◌∷◌}
-use mathlib.Core.Logic.{inl, inr}
-use Prim.Native.Nat.{ℕ, ◌+◌, ◌≤◌}
-use native.Mathlib.Omega.{arith}
-use lib.ListN.{length}
+use Rattle.std.proofs.Common.{◌≡◌, refl, ap, ◌∙◌, List, [], ◌∷◌, inl, inr, ℕ, ◌+◌, ◌≤◌, arith, length}
 use Rattle.wire.specs.Lists.{join_if, keep}
 use Rattle.load.specs.Load.{loaded}
 use Rattle.command.specs.declared.command.Command.{Command}

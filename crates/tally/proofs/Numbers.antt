@@ -1,10 +1,5 @@
 -- The number of a call is the tally's, whatever is lent; and what a call that is carried out has passed. Assumes nothing.
-use mathlib.Core.Path.{◌≡◌, refl, ap}
-use mathlib.Core.Bool.{Bool, true, not}
-use mathlib.Core.List.{List}
-use Prim.Native.Nat.{ℕ, ◌<◌}
-use borrow.Author.Tests.{eqb-true, ltb-true}
-use lib.ListN.{length}
+use Rattle.std.proofs.Common.{◌≡◌, refl, ap, Bool, true, not, List, ℕ, ◌<◌, eqb-true, ltb-true, length}
 use Rattle.causes.proofs.CheckLaws.{all_passed}
 use Rattle.wire.proofs.Lists.{and_left, and_split}
 use Rattle.wire.proofs.Pieces.{each_same}

@@ -1,14 +1,10 @@
 -- A line that the grammar does not find wrong is empty or the text of a command in its ranges. Assumes nothing.
-use mathlib.Core.Path.{◌≡◌, refl, sym, ap, ◌∙◌, subst}
-use mathlib.Core.Bool.{Bool, true, false, ◌&&◌, false≢true}
-use mathlib.Core.List.{List, [], ◌∷◌, ◌++◌, map}
-use mathlib.Core.Logic.{◌⊎◌, inl, inr, ⊎_elim}
-use Prim.Native.Nat.{ℕ, ◌+◌, ◌-◌, ◌<◌}
+use Rattle.std.proofs.Common.{◌≡◌, refl, sym, ap, ◌∙◌, subst, Bool, true, false, ◌&&◌, List, [], ◌∷◌, ◌++◌, map, ◌⊎◌, inl, inr}
+use Rattle.std.proofs.Common.{⊎_elim, ℕ, ◌+◌, ◌-◌, ◌<◌, arith, leb-true, le-leb, eqb-true, ne_eqb, eqb, leb, length, Option, Some}
+use Rattle.std.proofs.Common.{None}
+use Rattle.std.proofs.Math.Bool.{false≢true}
+use borrow.Author.Tests.{lt-leb}
 use Prim.Native.String.{String}
-use native.Mathlib.Omega.{arith}
-use borrow.Author.Tests.{leb-true, le-leb, lt-leb, eqb-true, ne_eqb}
-use lib.Dec.{eqb, leb}
-use lib.ListN.{length}
 use Rattle.wire.specs.Lists.{All, all}
 use Rattle.wire.specs.Text.{text, hex_digit}
 use Rattle.wire.specs.Words.{same}
@@ -19,7 +15,6 @@ use Rattle.command.proofs.DigitLaws.{digit_range}
 use Rattle.command.specs.declared.command.Line.{Line}
 use Rattle.command.specs.declared.command.Line.TheVariants.{Wrong}
 use Rattle.command.specs.declared.command.Setting.TheVariants.{Limhi, Eonly, Toferror, Junk, Hv, Hvstep}
-use Rattle.std.specs.Prelude.{Option, Some, None}
 use Rattle.command.specs.Grammar.{line_words, onto, is_digit, digit_value, argument_of, right_if, lookup_keyword}
 use Rattle.command.specs.Grammar.{with_one, with_two, with_three, one_argument, two_arguments, three_arguments, of_words, line_of}
 use Rattle.tally.specs.Texts.{Digits, value_of, CommandText, change, load_zero, load_at, ask, commit, text_of, Loadable, InRanges}

@@ -1,12 +1,7 @@
 -- The law of each request: one clause for each in `law`, at the end. Assumes nothing.
-use mathlib.Core.Path.{◌≡◌, refl, sym, ap, ◌∙◌, subst}
-use mathlib.Core.Bool.{true, true≢false}
-use mathlib.Core.List.{List, [], ◌∷◌}
-use Prim.Native.Nat.{ℕ, ◌≤◌, ◌<◌}
-use native.Mathlib.Omega.{arith}
-use borrow.Author.Tests.{eqb-true, not-true}
-use lib.Dec.{eqb}
-use lib.ListN.{length, length-append}
+use Rattle.std.proofs.Common.{◌≡◌, refl, sym, ap, ◌∙◌, subst, true, true≢false, List, [], ◌∷◌, ℕ, ◌≤◌, ◌<◌, arith, eqb-true, eqb}
+use Rattle.std.proofs.Common.{length, length-append}
+use borrow.Author.Tests.{not-true}
 use Rattle.wire.specs.Bytes.{zeros}
 use Rattle.wire.specs.Lists.{all}
 use Rattle.wire.proofs.Lists.{decide}

@@ -1,15 +1,10 @@
 -- Below the reach every byte was written by a package, and the bitmap tells the bad ones; while a commit waits all are right and have the
 -- sum that it gave. No reset of the bitmap is needed: where the reach is 0, nothing is said of it. Assumes nothing.
-use mathlib.Core.Path.{◌≡◌, refl, sym, ap, ◌∙◌, subst}
-use mathlib.Core.Logic.{◌≢◌}
-use mathlib.Core.Bool.{Bool, true, false, ◌&&◌, not, false≢true, true≢false}
-use mathlib.Core.List.{List, [], ◌∷◌, ◌++◌, append-nil}
-use Prim.Native.Nat.{ℕ, ◌+◌, ◌*◌, ◌≤◌, ◌<◌, max}
-use native.Mathlib.Nat.{not-suc-le-zero}
-use native.Mathlib.Omega.{arith}
-use borrow.Author.Tests.{leb-true, leb-false, ltb-false, le-leb, not-true, not-false, eqb-true}
-use lib.Dec.{eqb, leb, ltb}
-use lib.ListN.{length}
+use Rattle.std.proofs.Common.{◌≡◌, refl, sym, ap, ◌∙◌, subst, ◌≢◌, Bool, true, false, ◌&&◌, not, true≢false, List, [], ◌∷◌, ◌++◌}
+use Rattle.std.proofs.Common.{append-nil, ℕ, ◌+◌, ◌*◌, ◌≤◌, ◌<◌, max, not-suc-le-zero, arith, leb-true, leb-false, ltb-false}
+use Rattle.std.proofs.Common.{le-leb, eqb-true, eqb, leb, ltb, length}
+use Rattle.std.proofs.Math.Bool.{false≢true}
+use borrow.Author.Tests.{not-true, not-false}
 use Rattle.wire.specs.Lists.{keep}
 use Rattle.wire.proofs.Lists.{choice, decide, keep_append, keep_one}
 use Rattle.wire.proofs.Pieces.{each_at}

@@ -1,10 +1,6 @@
 -- The state and the slots that the tally stands for, after each thing that a call does to it. Assumes nothing.
-use mathlib.Core.Path.{◌≡◌, refl, sym, ap, ◌∙◌}
-use mathlib.Core.Bool.{true, ◌&&◌, not}
-use mathlib.Core.List.{List, [], ◌∷◌, ◌++◌, map}
-use Prim.Native.Nat.{ℕ, ◌+◌, ◌%◌, ◌<◌}
-use native.Mathlib.Omega.{arith}
-use lib.ListN.{length, get_or, length-append}
+use Rattle.std.proofs.Common.{◌≡◌, refl, sym, ap, ◌∙◌, true, ◌&&◌, not, List, [], ◌∷◌, ◌++◌, map, ℕ, ◌+◌, ◌%◌, ◌<◌, arith, length}
+use Rattle.std.proofs.Common.{get_or, length-append, Option}
 use Rattle.wire.specs.Bytes.{total, zeros}
 use Rattle.wire.specs.Lists.{keep}
 use Rattle.wire.specs.Pieces.{table}
@@ -16,7 +12,6 @@ use Rattle.samples.specs.Selection.{sorted, slots_taken}
 use Rattle.samples.proofs.SelectionLaws.{one_more_slots, one_more_use, no_slots, no_use}
 use Rattle.command.specs.declared.command.Line.{Line}
 use Rattle.command.specs.declared.command.Line.TheVariants.{Empty, Wrong, Change, LoadZero, LoadAt, Ask, Commit}
-use Rattle.std.specs.Prelude.{Option}
 use Rattle.command.specs.declared.command.Command.{Command}
 use Rattle.command.specs.Asked.{traits_of}
 use Rattle.command_list.specs.declared.CommandList.{CommandList}

@@ -1,9 +1,5 @@
 -- From one call to every list of calls, once for all: no word of telescopes. Assumes nothing.
-use mathlib.Core.Path.{◌≡◌, refl, sym, ap, ap₂, ◌∙◌, subst}
-use mathlib.Core.Bool.{true, false}
-use mathlib.Core.List.{List, [], ◌∷◌, map}
-use Prim.Native.Nat.{ℕ, ◌+◌}
-use native.Mathlib.Omega.{arith}
+use Rattle.std.proofs.Common.{◌≡◌, refl, sym, ap, ap₂, ◌∙◌, subst, true, false, List, [], ◌∷◌, map, ℕ, ◌+◌, arith}
 use Rattle.wire.specs.Bytes.{total}
 use Rattle.tally.specs.Steps.{Done, replies, after, Lawful, Idle, Always, Each, Followed}
 

@@ -1,13 +1,9 @@
 -- The grammar reads each right text as what it says. Assumes nothing.
-use mathlib.Core.Path.{◌≡◌, refl, ap, ◌∙◌}
-use mathlib.Core.Bool.{Bool, true, false, not}
-use mathlib.Core.List.{List, [], ◌∷◌, ◌++◌, map, append-nil}
-use Prim.Native.Nat.{ℕ, zero, suc, ◌+◌, ◌-◌, ◌*◌, ◌≤◌, ◌<◌}
+use Rattle.std.proofs.Common.{◌≡◌, refl, ap, ◌∙◌, Bool, true, false, not, List, [], ◌∷◌, ◌++◌, map, append-nil, ℕ, zero, suc, ◌+◌}
+use Rattle.std.proofs.Common.{◌-◌, ◌*◌, ◌≤◌, ◌<◌, arith, leb-true, leb-false, le-leb, eq-eqb, ne_eqb, eqb, leb, length}
+use Rattle.std.proofs.Common.{length-append, Option, Some}
+use borrow.Author.Tests.{lt-leb, not-true}
 use Prim.Native.String.{String}
-use native.Mathlib.Omega.{arith}
-use borrow.Author.Tests.{leb-true, leb-false, le-leb, lt-leb, eq-eqb, ne_eqb, not-true}
-use lib.Dec.{eqb, leb}
-use lib.ListN.{length, length-append}
 use Rattle.wire.specs.Lists.{All, all}
 use Rattle.wire.specs.Text.{text, hex_digit}
 use Rattle.wire.specs.Words.{same}
@@ -18,7 +14,6 @@ use Rattle.command.specs.declared.command.Line.TheVariants.{Change, LoadZero, Lo
 use Rattle.command.specs.declared.command.Setting.{Setting}
 use Rattle.command.specs.declared.command.Setting.TheVariants.{Limhi, Eonly, Toferror, Junk, Hv, Hvstep}
 use Rattle.command.specs.declared.ranges.Ranges.{Ranges}
-use Rattle.std.specs.Prelude.{Option, Some, None}
 use Rattle.command.specs.Grammar.{printable, line_words, onto, is_digit, digit_value, hex_behind, argument_of, right_if, lookup_keyword}
 use Rattle.command.specs.Grammar.{with_one, with_two, with_three, one_argument, two_arguments, three_arguments, of_words, line_of}
 use Rattle.tally.specs.Texts.{Digits, value_behind, value_of, arguments_text, line_text, CommandText, change, load_zero, load_at, ask}

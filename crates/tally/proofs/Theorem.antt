@@ -1,12 +1,6 @@
 -- Demand 3, proved: the law of each request gives one step for each call, and that every list of calls from a fresh processor.
 -- Assumes nothing.
-use mathlib.Core.Path.{◌≡◌, refl, sym, ◌∙◌, subst}
-use mathlib.Core.Bool.{true}
-use mathlib.Core.List.{List}
-use Prim.Native.Nat.{ℕ, ◌+◌}
-use native.Mathlib.Nat.{zero-add}
-use native.Mathlib.Omega.{arith}
-use lib.ListN.{length}
+use Rattle.std.proofs.Common.{◌≡◌, refl, sym, ◌∙◌, subst, true, List, ℕ, ◌+◌, zero-add, arith, length}
 use Rattle.capacity.specs.declared.Capacity.{Capacity}
 use Rattle.samples.proofs.SelectionLaws.{filled_selected}
 use Rattle.settings.specs.Settings.{fresh_settings}

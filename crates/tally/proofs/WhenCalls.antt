@@ -1,12 +1,9 @@
 -- When each number comes, of a call to a world that is the tally's. Assumes nothing.
-use mathlib.Core.Path.{◌≡◌, refl, sym, ap, ◌∙◌}
-use mathlib.Core.Bool.{Bool, true, false, ◌&&◌, not, cond, false≢true}
-use mathlib.Core.List.{List, [], ◌∷◌, ◌++◌}
-use Prim.Native.Nat.{ℕ, ◌+◌, ◌≤◌, ◌<◌}
-use native.Mathlib.Omega.{arith}
-use borrow.Author.Tests.{leb-true, le-leb, lt-leb, lt-ltb, le-ltb, eqb-true, eqb-false, eq-eqb, ne_eqb}
-use lib.Dec.{eqb, leb, ltb}
-use lib.ListN.{length, get_or, length-append}
+use Rattle.std.proofs.Common.{◌≡◌, refl, sym, ap, ◌∙◌, Bool, true, false, ◌&&◌, not, cond, List, [], ◌∷◌, ◌++◌, ℕ, ◌+◌, ◌≤◌, ◌<◌}
+use Rattle.std.proofs.Common.{arith, leb-true, le-leb, lt-ltb, le-ltb, eqb-true, eq-eqb, ne_eqb, eqb, leb, ltb, length, get_or}
+use Rattle.std.proofs.Common.{length-append}
+use Rattle.std.proofs.Math.Bool.{false≢true}
+use borrow.Author.Tests.{lt-leb, eqb-false}
 use Rattle.causes.specs.Checks.{Check, number_by, none}
 use Rattle.wire.specs.Lists.{all}
 use Rattle.wire.proofs.Lists.{decide, and_false, and_split}

@@ -1,14 +1,9 @@
 -- What the checks of each call say in the paper's words: laws over plain booleans, numbers and lists, no word of a tally. Assumes nothing.
-use mathlib.Core.Path.{◌≡◌, refl, sym, ap, ◌∙◌}
-use mathlib.Core.Bool.{Bool, true, false, ◌&&◌, ◌||◌, not, true≢false}
-use mathlib.Core.List.{List, [], ◌∷◌, map}
-use mathlib.Core.Logic.{◌≢◌, inl, inr, ⊎_elim}
-use Prim.Native.Nat.{ℕ, ◌+◌, ◌*◌, ◌≤◌}
+use Rattle.std.proofs.Common.{◌≡◌, refl, sym, ap, ◌∙◌, Bool, true, false, ◌&&◌, ◌||◌, not, true≢false, List, [], ◌∷◌, map, ◌≢◌, inl}
+use Rattle.std.proofs.Common.{inr, ⊎_elim, ℕ, ◌+◌, ◌*◌, ◌≤◌, arith, leb-true, le-leb, eqb-true, eq-eqb, eqb, leb, length}
+use Rattle.std.proofs.Common.{length-append}
+use borrow.Author.Tests.{not-true}
 use Prim.Native.String.{String}
-use native.Mathlib.Omega.{arith}
-use borrow.Author.Tests.{leb-true, le-leb, eqb-true, eq-eqb, not-true}
-use lib.Dec.{eqb, leb}
-use lib.ListN.{length, length-append}
 use Rattle.causes.specs.Checks.{Check, number_by, none}
 use Rattle.wire.specs.Bytes.{at16}
 use Rattle.wire.specs.Lists.{All, all}

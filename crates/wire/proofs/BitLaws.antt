@@ -1,10 +1,7 @@
 -- A flag's bit is 0 or 1, and tells the flag; a bit that is set or cleared changes no other. Assumes nothing.
-use mathlib.Core.Path.{◌≡◌, refl, sym, ap, ◌∙◌}
-use mathlib.Core.Bool.{Bool, true, false, ◌&&◌, not, cond, false≢true}
-use Prim.Native.Nat.{ℕ, zero, suc, ◌+◌, ◌-◌, ◌*◌, ◌/◌, ◌%◌, ◌^◌, ◌≤◌, ◌<◌}
-use native.Mathlib.Omega.{arith}
-use borrow.Author.Tests.{eqb-true, ltb-true}
-use lib.Dec.{eqb, ltb}
+use Rattle.std.proofs.Common.{◌≡◌, refl, sym, ap, ◌∙◌, Bool, true, false, ◌&&◌, not, cond, ℕ, zero, suc, ◌+◌, ◌-◌, ◌*◌, ◌/◌, ◌%◌}
+use Rattle.std.proofs.Common.{◌^◌, ◌≤◌, ◌<◌, arith, eqb-true, ltb-true, eqb, ltb, bit_and, bit_or}
+use Rattle.std.proofs.Math.Bool.{false≢true}
 use Rattle.wire.specs.Bits.{bit_of, bit_at, with_bit}
 use Rattle.wire.specs.Pieces.{each}
 use Rattle.wire.proofs.Lists.{and_split}
@@ -92,9 +89,6 @@ bit_with x k j b hk hj =
     ap (λ (n : ℕ). eqb n 1) (low_bit (with_bit x k b) j hj) ∙ ap (λ (n : ℕ). bit_at n j) m in
     e ∙ q.0 ∙ ap (cond (eqb k j) b) (sym (ap (λ (n : ℕ). eqb n 1) (low_bit x j hj)))
 
-pub with_fits : (x k : ℕ) (b : Bool) → x < 256 → k < 8 → with_bit x k b < 256
-with_fits x k b hx hk = (right_here b x k 0 hx hk (omega arith)).1
-
 -- a byte with no bit set is zero, and zero has none: tried for every byte
 each_none : each 256 (λ x. agree (eqb x 0) (each 8 (λ j. not (bit_at x j)))) ≡ true
 unfolding each
@@ -103,37 +97,21 @@ each_none = refl
 pub no_bits : (x : ℕ) → x < 256 → eqb x 0 ≡ each 8 (λ j. not (bit_at x j))
 no_bits x h = agree_is _ _ (each_at (λ x. agree (eqb x 0) (each 8 (λ j. not (bit_at x j)))) 256 x h each_none)
 
--- what a bit's value added or taken away makes of a number whose bit k is t
-module _ (x k v : ℕ) (t f : Bool) (ev : v ≡ 2 ^ k) (et : t ≡ bit_at x k) where
-  pub bit_cleared : (t && not f) ≡ true → x - v ≡ with_bit x k f
-  bit_cleared h = go t f et h
-    where
-      go : (t f : Bool) → t ≡ bit_at x k → (t && not f) ≡ true → x - v ≡ with_bit x k f
-      go true false e h = rw (sym e) (ap (λ (n : ℕ). x - n) ev)
-      go true true e h = absurd (false≢true h)
-      go false f e h = absurd (false≢true h)
+-- the library's words for a bit set or cleared, tried for every byte and every bit
+each_set : each 256 (λ x. each 8 (λ k. eqb (bit_or x (1 * 2 ^ k % 256)) (with_bit x k true))) ≡ true
+unfolding each
+each_set = refl
 
-  pub bit_below : k < 8 → (t && not f) ≡ true → v ≤ x
-  bit_below hk h =
-      let e : x % 256 / 2 ^ k % 2 ≡ 1 = sym (low_bit x k hk) ∙ eqb-true _ _ (sym et ∙ (and_split t (not f) h).0) in
-      omega (arith, set_most x k hk e, ev)
+each_cleared : each 256 (λ x. each 8 (λ k. eqb (bit_and x (255 - 1 * 2 ^ k % 256)) (with_bit x k false))) ≡ true
+unfolding each
+each_cleared = refl
 
-  pub bit_set : (not t && f) ≡ true → x + v ≡ with_bit x k f
-  bit_set h = go t f et h
-    where
-      go : (t f : Bool) → t ≡ bit_at x k → (not t && f) ≡ true → x + v ≡ with_bit x k f
-      go true f e h = absurd (false≢true h)
-      go false false e h = absurd (false≢true h)
-      go false true e h = rw (sym e) (ap (λ (n : ℕ). x + n) ev)
+pub bit_set : (x k : ℕ) → x < 256 → k < 8 → bit_or x (1 * 2 ^ k % 256) ≡ with_bit x k true
+bit_set x k hx hk =
+    eqb-true _ _ (each_at (λ k. eqb (bit_or x (1 * 2 ^ k % 256)) (with_bit x k true)) 8 k hk
+    (each_at (λ x. each 8 (λ k. eqb (bit_or x (1 * 2 ^ k % 256)) (with_bit x k true))) 256 x hx each_set))
 
-  pub bit_fits : x < 256 → k < 8 → (not t && f) ≡ true → x + v < 256
-  bit_fits hx hk h = rw (bit_set h) (with_fits x k f hx hk)
-
-  pub bit_kept : (t && not f) ≡ false → (not t && f) ≡ false → x ≡ with_bit x k f
-  bit_kept h g = go t f et h g
-    where
-      go : (t f : Bool) → t ≡ bit_at x k → (t && not f) ≡ false → (not t && f) ≡ false → x ≡ with_bit x k f
-      go true true e h g = rw (sym e)
-      go true false e h g = absurd (false≢true (sym h))
-      go false true e h g = absurd (false≢true (sym g))
-      go false false e h g = rw (sym e)
+pub bit_cleared : (x k : ℕ) → x < 256 → k < 8 → bit_and x (255 - 1 * 2 ^ k % 256) ≡ with_bit x k false
+bit_cleared x k hx hk =
+    eqb-true _ _ (each_at (λ k. eqb (bit_and x (255 - 1 * 2 ^ k % 256)) (with_bit x k false)) 8 k hk
+    (each_at (λ x. each 8 (λ k. eqb (bit_and x (255 - 1 * 2 ^ k % 256)) (with_bit x k false))) 256 x hx each_cleared))

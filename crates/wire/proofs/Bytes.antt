@@ -1,15 +1,15 @@
 -- Laws of runs of bytes and of the numbers in them. Assumes nothing.
-use mathlib.Core.Path.{◌≡◌, refl, sym, ap, ◌∙◌}
-use mathlib.Core.List.{List, [], ◌∷◌, ◌++◌, append_assoc, append-nil}
-use Prim.Native.Nat.{ℕ, ◌+◌, ◌-◌, ◌*◌, ◌/◌, ◌%◌, ◌≤◌, ◌<◌}
-use native.Mathlib.Omega.{arith}
-use native.Mathlib.Numerals.{add-one}
-use lib.ListN.{length, take, drop, get_or, length-append, length-take, length-drop, replicate-append-replicate, drop_of_length-le}
-use lib.ListN.{get_or-append}
-use lib.Seq.{sets, sets-eq, length-take-le, take_at, drop_at, drop-cons, take-suc, drop-drop, paste-zero}
-use lib.Seq.{get_or-append-add, get_or-take, get_or-drop}
+use Rattle.std.proofs.Common.{◌≡◌, refl, sym, ap, ◌∙◌, List, [], ◌∷◌, ◌++◌, append_assoc, append-nil, ℕ, zero, suc, ◌+◌, ◌-◌, ◌*◌}
+use Rattle.std.proofs.Common.{◌/◌, ◌%◌, ◌≤◌, ◌<◌, arith, add-one, length, take, drop, get_or, length-append, length-take}
+use Rattle.std.proofs.Common.{length-drop, drop_of_length-le, length-take-le, take_at, drop_at, drop-cons, take-suc, drop-drop}
+use Rattle.std.proofs.Common.{get_or-append-add, get_or-take, get_or-drop}
+use Rattle.std.proofs.Math.ListN.{replicate-append-replicate, get_or-append}
+use Rattle.std.proofs.Math.Seq.{sets, sets-eq, paste-zero}
 use borrow.Rule.Slice.PartMut.{put_mid, Post-is}
-use Rattle.wire.specs.Bytes.{put, total, words, be32, zeros}
+use Rattle.std.specs.Int.{w16, w32, to_be_bytes}
+use Rattle.std.specs.Simd.{first_chunks}
+use Rattle.std.proofs.lemmas.List.{take-append-drop}
+use Rattle.wire.specs.Bytes.{put, total, words, be16, be32, zeros}
 pub use Rattle.wire.specs.NumberLaws.{put_inside, value16, value32}
 
 -- ---- a run put into a list
@@ -127,27 +127,6 @@ pub total_drop : (p : List ℕ) (i : ℕ) → i < length p → total (drop i p) 
 unfolding total
 total_drop p i h = rw (add-one, drop-cons p i 0)
 
--- the eight numbers from an index on, and what is behind them
-pub total_eight : (p : List ℕ) (at : ℕ) → at + 8 ≤ length p
-    → total (drop at p)
-    ≡ get_or p at 0 + get_or p (at + 1) 0 + get_or p (at + 2) 0 + get_or p (at + 3) 0 + get_or p (at + 4) 0 + get_or p (at + 5) 0
-    + get_or p (at + 6) 0 + get_or p (at + 7) 0 + total (drop (at + 8) p)
-total_eight p at h =
-    omega (
-      arith,
-      total_drop p at (omega arith),
-      total_next (at + 1) (at + 2) (omega arith) (omega arith),
-      total_next (at + 2) (at + 3) (omega arith) (omega arith),
-      total_next (at + 3) (at + 4) (omega arith) (omega arith),
-      total_next (at + 4) (at + 5) (omega arith) (omega arith),
-      total_next (at + 5) (at + 6) (omega arith) (omega arith),
-      total_next (at + 6) (at + 7) (omega arith) (omega arith),
-      total_next (at + 7) (at + 8) (omega arith) (omega arith),
-    )
-  where
-    total_next : (i j : ℕ) → i < length p → j ≡ i + 1 → total (drop i p) ≡ get_or p i 0 + total (drop j p)
-    total_next i j g e = total_drop p i g ∙ ap (λ (k : ℕ). get_or p i 0 + total (drop k p)) (sym e)
-
 pub total_end : (p : List ℕ) (i : ℕ) → length p ≤ i → total (drop i p) ≡ 0
 unfolding total
 total_end p i h = ap total (drop_of_length-le p h)
@@ -157,7 +136,32 @@ unfolding total
 total_append [] ys = omega arith
 total_append (x ∷ xs) ys = omega (arith, total_append xs ys)
 
--- ---- a number's bytes hold the number
+-- ---- ---- sums by chunks
+
+pub chunk_at : (n : ℕ) (k i : ℕ) (xs : List ℕ) (d : List ℕ) → i < k → get_or (first_chunks n k xs) i d ≡ take n (drop (n * i) xs)
+chunk_at n zero i xs d h = absurd (omega (arith, h))
+chunk_at n (suc k) zero xs d h = let e : n * 0 ≡ 0 = omega arith in rw e refl
+chunk_at n (suc k) (suc i) xs d h =
+    let e : n + n * i ≡ n * suc i = grind arith in
+    chunk_at n k i (drop n xs) d (omega (arith, h)) ∙ ap (take n) (drop-drop (n * i) n xs ∙ ap (λ (m : ℕ). drop m xs) e)
+
+-- the sum of what is left, by the next chunk
+pub total_chunk : (n k i : ℕ) (xs : List ℕ) (cs : List (List ℕ)) → cs ≡ first_chunks n k xs → i < k
+    → total (drop (n * i) xs) ≡ total (get_or cs i []) + total (drop (n * (i + 1)) xs)
+total_chunk n k i xs cs e h =
+    let ys : List ℕ = drop (n * i) xs in
+    let c : take n ys ≡ get_or cs i [] = sym (ap (λ (l : List (List ℕ)). get_or l i []) e ∙ chunk_at n k i xs [] h) in
+    let m : n * i + n ≡ n * (i + 1) = grind arith in
+    let d : drop n ys ≡ drop (n * (i + 1)) xs = drop-drop n (n * i) xs ∙ ap (λ (m : ℕ). drop m xs) m in
+    ap total (sym (take-append-drop n ys)) ∙ total_append (take n ys) (drop n ys) ∙ (λ j. total (c j) + total (d j))
+
+-- ---- a number's bytes hold the number, and are the library's
 
 pub value24 : (v : ℕ) → 65536 * (v / 65536) + 256 * (v / 256 % 256) + v % 256 ≡ v
 value24 v = omega arith
+
+pub bytes16 : (v : ℕ) → v < 65536 → to_be_bytes w16 v ≡ be16 v
+bytes16 v h = let e : v / 256 % 256 ≡ v / 256 = omega arith in rw e refl
+
+pub bytes32 : (v : ℕ) → v < 4294967296 → to_be_bytes w32 v ≡ be32 v
+bytes32 v h = let e : v / 16777216 % 256 ≡ v / 16777216 = omega arith in rw e refl

@@ -1,18 +1,14 @@
 -- Laws of the tests and counts on lists. Assumes nothing.
-use mathlib.Core.Path.{◌≡◌, refl, sym, ap, ◌∙◌}
-use mathlib.Core.Bool.{Bool, true, false, ◌&&◌, ◌||◌, cond, false≢true}
-use mathlib.Core.List.{List, [], ◌∷◌, ◌++◌, map}
-use mathlib.Core.Logic.{◌⊎◌, inl, inr, ⊎_elim}
-use Prim.Native.Nat.{ℕ, zero, suc, ◌+◌, ◌-◌, ◌≤◌, ◌<◌, min, suc-le-suc}
-use native.Mathlib.Nat.{le_refl, le_trans, le-suc}
-use native.Mathlib.Numerals.{add-one}
-use native.Mathlib.Omega.{arith}
-use lib.ListN.{length, take, drop, get_or, replicate, length-take, drop_of_length-le, get_or-eq_default}
-use lib.Seq.{drop-cons, drop_at, get_or-set_same, get_or-set_other, length-take-le, set_out, take-add, take_all, take-take}
-use lib.Seq.{get_or-take, get_or-drop}
-use borrow.Author.Tests.{leb-true, leb-false, ltb-true, ltb-false}
-use lib.Dec.{leb, ltb}
-use native.Mathlib.Decide.{ℕ_discrete, dec_lt}
+use Rattle.std.proofs.Common.{◌≡◌, refl, sym, ap, ◌∙◌, Bool, true, false, ◌&&◌, ◌||◌, cond, List, [], ◌∷◌, ◌++◌, map, ◌⊎◌, inl, inr}
+use Rattle.std.proofs.Common.{ℕ, zero, suc, ◌+◌, ◌-◌, ◌≤◌, ◌<◌, suc-le-suc, le_refl, le_trans, arith, length}
+use Rattle.std.proofs.Common.{take, drop, get_or, replicate, length-take, drop_of_length-le, drop-cons, get_or-set_same}
+use Rattle.std.proofs.Common.{get_or-set_other, get_or-take, get_or-drop, leb-true}
+use Rattle.std.proofs.Common.{ltb-true, ltb-false, leb, ltb}
+use Rattle.std.proofs.Math.Bool.{false≢true}
+use Rattle.std.proofs.Math.Nat.{le-suc}
+use Rattle.std.proofs.Math.ListN.{get_or-eq_default}
+use Rattle.std.proofs.Math.Seq.{set_out}
+use Rattle.std.proofs.Math.Decide.{ℕ_discrete, dec_lt}
 use Rattle.wire.specs.Lists.{all, at_most, EachBelow, bump, join_if, keep}
 
 -- a test passes or fails
@@ -28,10 +24,6 @@ pub and_false : (a : Bool) → (a && false) ≡ false
 and_false true = refl
 and_false false = refl
 
-and_true : (a : Bool) → (a && true) ≡ a
-and_true true = refl
-and_true false = refl
-
 join_count : {A : Type 0} (b : Bool) (x : A) (l : List A) → length (join_if b x l) ≡ cond b 1 0 + length l
 join_count true x l = omega arith
 join_count false x l = omega arith
@@ -41,30 +33,9 @@ module _ {A : Type 0} (p : A → Bool) (xs : List A) (d : A) where
   pub all_stop : (i : ℕ) → i < length xs → p (get_or xs i d) ≡ false → all p xs ≡ all p (drop i xs) → all p xs ≡ false
   all_stop i h e q = q ∙ (rw (drop-cons xs i d) (rw e))
 
-  -- the test passes at i
-  pub all_step : (i : ℕ) → i < length xs → p (get_or xs i d) ≡ true → all p xs ≡ all p (drop i xs) → all p xs ≡ all p (drop (i + 1) xs)
-  all_step i h e q = q ∙ (rw (drop-cons xs i d) (rw (e, add-one)))
-
   -- every test passed
   pub all_end : (i : ℕ) → length xs ≤ i → all p xs ≡ all p (drop i xs) → all p xs ≡ true
   all_end i h q = q ∙ ap (λ (l : List A). all p l) (drop_of_length-le xs h)
-
-  -- a scan with no early exit: what it has so far, and what is left
-  pub scan_step : (ok : Bool) (i : ℕ) → i < length xs → (ok && all p (drop i xs)) ≡ all p xs
-      → ((ok && p (get_or xs i d)) && all p (drop (i + 1) xs)) ≡ all p xs
-  scan_step ok i h q = and_assoc ok (p (get_or xs i d)) (all p (drop (i + 1) xs)) ∙ rw (add-one) (rw (drop-cons xs i d) at q)
-
-  pub scan_end : (ok : Bool) (i : ℕ) → length xs ≤ i → (ok && all p (drop i xs)) ≡ all p xs → ok ≡ all p xs
-  scan_end ok i h q = sym (and_true ok) ∙ ap (λ (l : List A). ok && all p l) (sym (drop_of_length-le xs h)) ∙ q
-
-  -- how many pass, by one element
-  pub count_step : (i : ℕ) → i < length xs → length (keep p (drop i xs)) ≡ cond (p (get_or xs i d)) 1 0 + length (keep p (drop (i + 1) xs))
-  unfolding keep
-  count_step i h = rw (add-one, drop-cons xs i d) (join_count (p (get_or xs i d)) (get_or xs i d) (keep p (drop (suc i) xs)))
-
-  pub count_end : (i : ℕ) → length xs ≤ i → length (keep p (drop i xs)) ≡ 0
-  unfolding keep
-  count_end i h = ap (λ (l : List A). length (keep p l)) (drop_of_length-le xs h)
 
 -- a conjunction's two parts
 pub and_left : (a b : Bool) → (a && b) ≡ true → a ≡ true
@@ -104,10 +75,6 @@ pub all_at : (m : ℕ) (xs : List ℕ) (k : ℕ) → all (at_most m) xs ≡ true
 all_at m [] k h = omega arith
 all_at m (x ∷ xs) zero h = leb-true x m (and_left (leb x m) (all (at_most m) xs) h)
 all_at m (x ∷ xs) (suc k) h = all_at m xs k (and_right (leb x m) (all (at_most m) xs) h)
-
--- a larger bound on every number
-pub each_more : (m n : ℕ) (xs : List ℕ) → m ≤ n → EachBelow m xs → EachBelow n xs
-each_more m n xs h b k = omega (arith, b k)
 
 -- one more at i, and the bound one more
 pub each_bump : (n : ℕ) (xs : List ℕ) (i : ℕ) → EachBelow n xs → EachBelow (n + 1) (bump xs i)
@@ -153,31 +120,6 @@ module _ {A : Type 0} where
   unfolding keep
   length_keep p [] = le_refl 0
   length_keep p (x ∷ xs) = join_length (p x) x (keep p xs) (length_keep p xs)
-
--- ---- parts of parts
-
-module _ {A : Type 0} where
-  pub take_least : (m n : ℕ) (l : List A) → take m (take n l) ≡ take (min m n) l
-  take_least m n l =
-      ⊎_elim
-      (λ e. let h : m ≤ n = leb-true m n e in let k : min m n ≡ m = omega arith in rw k (take-take m n l h))
-      (λ e.
-      let h : n < m = leb-false m n e in
-      let k : min m n ≡ n = omega arith in
-      rw k (take_all m (take n l) (omega (arith, length-take n l))))
-      (either (leb m n))
-
-  drop_take : (f n : ℕ) (s : List A) → f ≤ length s → drop f (take (f + n) s) ≡ take n (drop f s)
-  drop_take f n s h = ap (drop f) (take-add f n s) ∙ drop_at (take f s) (take n (drop f s)) f (length-take-le f s h)
-
-  -- at most w elements from f on, of the first `reach`
-  pub part_of_reach : (s : List A) (w f reach : ℕ) → f ≤ reach → reach ≤ length s
-      → take w (drop f (take reach s)) ≡ take (min w (reach - f)) (drop f s)
-  part_of_reach s w f reach h g =
-      let e : reach ≡ f + (reach - f) = omega arith in
-      ap (λ (n : ℕ). take w (drop f (take n s))) e
-      ∙ ap (take w) (drop_take f (reach - f) s (omega arith))
-      ∙ take_least w (reach - f) (drop f s)
 
 -- ---- choices
 

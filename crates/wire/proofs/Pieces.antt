@@ -1,18 +1,13 @@
 -- Laws of lists made of numbered or equal pieces, or filled up to a length. Assumes nothing.
-use mathlib.Core.Path.{◌≡◌, refl, sym, ap, ap₂, ◌∙◌}
-use mathlib.Core.Bool.{Bool, true, false, ◌&&◌, and-true, and_assoc, false≢true}
-use mathlib.Core.List.{List, [], ◌∷◌, ◌++◌, append_assoc, append-nil}
-use Prim.Native.Nat.{ℕ, zero, suc, ◌+◌, ◌-◌, ◌*◌, ◌≤◌, ◌<◌}
-use native.Mathlib.Omega.{arith}
-use native.Mathlib.Nat.{eq-or-lt_of_le}
-use native.Mathlib.Numerals.{add-one}
-use mathlib.Core.Logic.{⊎_elim}
-use lib.ListN.{length, take, get_or, set, replicate, length-append, length-replicate, length-set, get_or-append}
-use lib.Seq.{take-suc, take-suc-set, take_all, length-take-le, get_or-append-add}
-use lib.Seq.{ext_get_or, get_or_at, set-append_seam, set-append_left, append_snoc}
+use Rattle.std.proofs.Common.{◌≡◌, refl, sym, ap, ap₂, ◌∙◌, Bool, true, false, ◌&&◌, List, [], ◌∷◌, ◌++◌, append_assoc, append-nil}
+use Rattle.std.proofs.Common.{ℕ, zero, suc, ◌+◌, ◌-◌, ◌*◌, ◌≤◌, ◌<◌, arith, eq-or-lt_of_le, add-one, ⊎_elim, length, take, get_or}
+use Rattle.std.proofs.Common.{set, replicate, length-append, length-set, take-suc, take-suc-set, take_all, length-take-le}
+use Rattle.std.proofs.Common.{get_or-append-add, ext_get_or, le-leb}
+use Rattle.std.proofs.Math.Bool.{and-true, and_assoc, false≢true}
+use Rattle.std.proofs.Math.ListN.{length-replicate, get_or-append}
+use Rattle.std.proofs.Math.Seq.{get_or_at, set-append_seam, set-append_left, append_snoc}
 use Rattle.wire.specs.Bits.{bit_of}
 use Rattle.wire.specs.Bytes.{one, zeros, total, words, be32}
-use borrow.Author.Tests.{le-leb}
 use Rattle.wire.specs.Lists.{all, at_most}
 use Rattle.wire.proofs.Bytes.{total_append, zeros_more}
 use Rattle.wire.proofs.Lists.{and_split, all_append, decide}

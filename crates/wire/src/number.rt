@@ -43,6 +43,7 @@ impl BigEndian for u8 {
     }
 }
 
+// An impl for each width: the library's `to_be_bytes` stands in no trait.
 impl BigEndian for u16 {
     ghost width = { 2 };
 
@@ -52,13 +53,13 @@ impl BigEndian for u16 {
 
     ghost reads = { reads16 };
 
+    #[tactic(auto, using(crate::proofs::Bytes::put_mid_lem, crate::proofs::Bytes::bytes16))]
     fn put(self, part: &mut [u8], at: usize) {
-        part[at] = (self / 256) as u8;
-        part[at + 1] = (self % 256) as u8;
+        part[at..at + 2].copy_from_slice(&self.to_be_bytes());
     }
 
     fn read(part: &[u8], at: usize) -> u16 {
-        256 * u16::from(part[at]) + u16::from(part[at + 1])
+        u16::from_be_bytes([part[at], part[at + 1]])
     }
 }
 
@@ -71,17 +72,12 @@ impl BigEndian for u32 {
 
     ghost reads = { reads32 };
 
+    #[tactic(auto, using(crate::proofs::Bytes::put_mid_lem, crate::proofs::Bytes::bytes32))]
     fn put(self, part: &mut [u8], at: usize) {
-        part[at] = (self / 16777216) as u8;
-        part[at + 1] = (self / 65536 % 256) as u8;
-        part[at + 2] = (self / 256 % 256) as u8;
-        part[at + 3] = (self % 256) as u8;
+        part[at..at + 4].copy_from_slice(&self.to_be_bytes());
     }
 
     fn read(part: &[u8], at: usize) -> u32 {
-        16777216 * u32::from(part[at])
-            + 65536 * u32::from(part[at + 1])
-            + 256 * u32::from(part[at + 2])
-            + u32::from(part[at + 3])
+        u32::from_be_bytes([part[at], part[at + 1], part[at + 2], part[at + 3]])
     }
 }

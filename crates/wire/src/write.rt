@@ -4,18 +4,21 @@ ghost use Rattle.wire.specs.Bytes.{put, be24, words, zeros};
 
 use crate::number::BigEndian;
 
-// v, below 2^24, in three bytes from `at` on. No type has 24 bits, so this stands beside `BigEndian`.
+// v, below 2^24, in three bytes from `at` on. No type has 24 bits, so this stands beside `BigEndian`. Byte by byte: by
+// `copy_from_slice` of the last three a load of packed words takes more than twice as many instructions.
 pub fn put_u24(part: &mut [u8], at: usize, v: u32)
     requires at_in_bounds { at + 3 ≤ length part.old }
     requires v_bound { v < 16777216 }
     ensures { part.new ≡ put part.old at (be24 v) }
 {
-    part[at] = (v / 65536) as u8;
-    part[at + 1] = (v / 256 % 256) as u8;
-    part[at + 2] = (v % 256) as u8;
+    let [_, high, middle, low] = v.to_be_bytes();
+    part[at] = high;
+    part[at + 1] = middle;
+    part[at + 2] = low;
 }
 
-// The words, four bytes each, from `at` on.
+// The words, four bytes each, from `at` on. By place: the library's `as_chunks_mut` says nothing of what it leaves.
+#[tactic(auto, using(crate::proofs::Bytes::put_nil, crate::proofs::Bytes::put_put, crate::proofs::Bytes::words_take, crate::proofs::Bytes::length_words_take), unfolding(crate::specs::Bytes::words))]
 pub fn put_words(part: &mut [u8], at: usize, ws: &[u32])
     requires { at + 4 * length ws.now ≤ length part.old }
     ensures { part.new ≡ put part.old at (words ws.now) }
@@ -37,6 +40,7 @@ pub fn put_bytes(part: &mut [u8], at: usize, src: &[u8])
 }
 
 // Zeros from `from` to before `to`.
+#[tactic(auto, using(crate::proofs::Bytes::put_mid_lem, crate::proofs::Bytes::length_part))]
 pub fn put_zeros(part: &mut [u8], from: usize, to: usize)
     requires { (from ≤ to) × (to ≤ length part.old) }
     ensures { part.new ≡ put part.old from (zeros (to - from)) }

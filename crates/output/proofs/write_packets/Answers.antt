@@ -1,10 +1,6 @@
 -- Rate packet, sample packets and beacon packet, put one behind the other, fill the output.
-use Prim.Native.Nat.{ℕ, ◌+◌, ◌-◌, ◌*◌}
-use mathlib.Core.Path.{◌≡◌, sym, ap, ◌∙◌}
-use mathlib.Core.List.{List, ◌++◌}
-use native.Mathlib.Omega.{arith}
+use Rattle.std.proofs.Common.{ℕ, ◌+◌, ◌-◌, ◌*◌, ◌≡◌, sym, ap, ◌∙◌, List, ◌++◌, arith, length, length-append, rules}
 use borrow.Rule.Slice.PartMut.{put_mid}
-use lib.ListN.{length, length-append}
 use Rattle.wire.specs.Bytes.{put}
 use Rattle.wire.proofs.Bytes.{then, put_all, put_mid_lem}
 use Rattle.rate_code.specs.Editions.{second_mark}
@@ -14,7 +10,6 @@ use Rattle.packet.specs.TableSum.{table_sum}
 use Rattle.state.proofs.LimitLaws.{state_limits}
 use Rattle.output.specs.Output.{samples_of, written}
 use Rattle.output.proofs.OutputLaws.{totals_fit, boxes_fit, beacons_fit, length_samples}
-use borrow.Author.Rules.{rules}
 use Rattle.output.proofs.write_packets.Goals as goal
 
 pub invariant_of-body : goal.invariant_of-body

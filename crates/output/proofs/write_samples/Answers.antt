@@ -1,18 +1,12 @@
 -- Each turn of `write_samples` adds one sample packet behind those that are written.
-use Prim.Native.Nat.{ℕ, ◌-◌, ◌+◌, ◌*◌}
-use mathlib.Core.Path.{◌≡◌, refl, sym, ap, ◌∙◌}
-use mathlib.Core.List.{List}
-use native.Mathlib.Omega.{arith}
-use native.Mathlib.Numerals.{add-one}
+use Rattle.std.proofs.Common.{ℕ, ◌-◌, ◌+◌, ◌*◌, ◌≡◌, refl, sym, ap, ◌∙◌, List, arith, add-one, length, take, drop, rules}
 use borrow.Rule.Slice.PartMut.{put_mid}
-use lib.ListN.{length, take, drop}
 use Rattle.wire.specs.Bytes.{put}
 use Rattle.wire.proofs.Bytes.{put_put, put_nil, put_mid_lem, length_part}
 use Rattle.packet.specs.Packet.{packet_bytes, stamp_of, sample_packet}
 use Rattle.output.specs.Output.{samples_of}
 use Rattle.packet.proofs.Written.{length_sample}
 use Rattle.output.proofs.OutputLaws.{length_samples}
-use borrow.Author.Rules.{rules}
 use Rattle.output.proofs.write_samples.Goals as goal
 
 pub loop-i-init : goal.loop-i-init
@@ -44,9 +38,3 @@ loop-i-preserved c =
           ∙ ap (λ (n : ℕ). put a.out.now packet_bytes (samples_of a.frame a.time slots a.s.first n)) (sym (add-one i)),
       search rules,
     )
-
-pub returns : goal.returns
-returns c =
-    let a = c.args in
-    let k : c.loop-i.i ≡ a.s.many = omega arith in
-    c.loop-i.invariant.0 ∙ ap (λ (n : ℕ). put a.out.now packet_bytes (samples_of a.frame a.time a.slots.now a.s.first n)) k

@@ -1,6 +1,5 @@
 -- Each turn of `write_samples` adds one sample packet behind those that are written.
-use mathlib.Core.Path.{◌≡◌}
-use lib.ListN.{length}
+use Rattle.std.proofs.Common.{◌≡◌, length}
 use Rattle.wire.specs.Bytes.{put}
 use Rattle.packet.specs.Packet.{packet_bytes}
 use Rattle.output.specs.Output.{samples_of}

@@ -1,8 +1,6 @@
 -- `append` shifts left without loss, and the field fills the bits that became zero.
-use Prim.Native.Nat.{ℕ}
-use mathlib.Core.Path.{ap, ◌∙◌}
-use native.Mathlib.Nat.{mod-eq_of_lt}
-use lib.Bits.{bit_or, or_shifted}
+use Rattle.std.proofs.Common.{ℕ, ap, ◌∙◌, mod-eq_of_lt, bit_or}
+use lib.Bits.{or_shifted}
 use Rattle.sample_record.proofs.append.Goals as goal
 
 pub returns : goal.returns

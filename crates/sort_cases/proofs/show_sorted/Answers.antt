@@ -1,5 +1,5 @@
 -- Counts of zeros may count an event.
-use native.Mathlib.Omega.{arith}
+use Rattle.std.proofs.Common.{arith}
 use Rattle.wire.proofs.Lists.{each_zeros}
 use Rattle.boxes.specs.Boxes.{box_count}
 use Rattle.sort_cases.proofs.show_sorted.Goals as goal

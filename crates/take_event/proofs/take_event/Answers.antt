@@ -1,6 +1,5 @@
 -- The limits of the state bound the counts and LIMHI.
-use native.Mathlib.Omega.{arith}
-use borrow.Author.Tests.{leb-true}
+use Rattle.std.proofs.Common.{arith, leb-true}
 use Rattle.capacity.specs.Capacity.{numbers_of}
 use Rattle.capacity.proofs.NumberLaws.{limhi_slots}
 use Rattle.state.proofs.LimitLaws.{state_limits, boxes_below, beacons_below}
@@ -21,9 +20,9 @@ pub select-requires-clause-limhi_in_bounds : goal.select-requires-clause-limhi_i
 select-requires-clause-limhi_in_bounds c =
     let s = c.args.state.now in
     let limhi = leb-true s.settings.limhi (numbers_of s.capacity).limhi (state_limits s c.requires.state_value).settings in
-    omega (arith, c.requires.tables_len.1, limhi, limhi_slots s.capacity)
+    omega (arith, c.requires.slots_len, limhi, limhi_slots s.capacity)
 
 pub returns-clause-state : goal.returns-clause-state
 unfolding interval_taken
 returns-clause-state c =
-    simp (c.count.ensures, c.select.ensures.kept, c.outcome_of-outcome.ensures.outcome, c.requires.tables_len.1)
+    simp (c.count.ensures, c.select.ensures.kept, c.outcome_of-outcome.ensures.outcome, c.requires.slots_len)

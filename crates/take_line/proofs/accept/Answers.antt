@@ -1,8 +1,5 @@
 -- An accepted command finds room.
-use mathlib.Core.Bool.{true}
-use mathlib.Core.Path.{◌≡◌}
-use native.Mathlib.Omega.{arith}
-use Prim.Native.Nat.{◌<◌}
+use Rattle.std.proofs.Common.{true, ◌≡◌, arith, ◌<◌}
 use Rattle.command.specs.Asked.{traits_of}
 use Rattle.command_list.specs.CommandList.{most_commands}
 use Rattle.command_list.proofs.CommandListLaws.{commands_are, room}

@@ -7,11 +7,7 @@ use Rattle.take_line.proofs.take_line.Goals as goal
 
 pub judge-judged-requires : goal.judge-judged-requires
 judge-judged-requires c =
-    let s = c.args.state.now in (
-      c.requires.staging_len.0,
-      c.requires.staging_len.1,
-      (addresses_are s.staging (state_limits s c.requires.state_value.0).staging).1,
-    )
+    let s = c.args.state.now in (addresses_are s.staging (state_limits s c.requires.state_value.0).staging).1
 
 pub write_echo-requires-clause-accepted_le_most_commands : goal.write_echo-requires-clause-accepted_le_most_commands
 write_echo-requires-clause-accepted_le_most_commands c =

@@ -1,9 +1,5 @@
 -- The totals behind the index have their counts added, and the others are what they were.
-use mathlib.Core.Path.{refl, ◌∙◌}
-use native.Mathlib.Omega.{arith}
-use lib.ListN.{length-set}
-use lib.Seq.{get_or-set_other}
-use borrow.Author.Rules.{rules}
+use Rattle.std.proofs.Common.{refl, ◌∙◌, arith, length-set, get_or-set_other, rules}
 use Rattle.wire.proofs.Pieces.{table_none, table_turn, table_end}
 use Rattle.take_reading.proofs.add.Goals as goal
 
@@ -18,8 +14,3 @@ loop-i-preserved c =
       table_turn _ c.loop-i.totals i (omega arith) v.1 (omega (arith, v.2 i (omega arith), c.from.ensures)),
       λ k h. get_or-set_other c.loop-i.totals i k _ 0 (omega arith) ∙ v.2 k (omega arith),
     )
-
-pub returns : goal.returns
-returns c =
-    let v = c.loop-i.invariant in
-    table_end _ c.loop-i.totals c.loop-i.i 8 (omega arith) (omega arith) v.0 v.1

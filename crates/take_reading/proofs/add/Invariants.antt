@@ -1,7 +1,5 @@
 -- The totals behind the index have their counts added, and the others are what they were.
-use mathlib.Core.Path.{◌≡◌}
-use Prim.Native.Nat.{ℕ, ◌≤◌, ◌+◌}
-use lib.ListN.{length, get_or, take}
+use Rattle.std.proofs.Common.{◌≡◌, ℕ, ◌≤◌, ◌+◌, length, get_or, take}
 use Rattle.wire.specs.Pieces.{table}
 use Rattle.take_reading.proofs.add.Given as goal
 

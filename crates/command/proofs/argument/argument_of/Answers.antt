@@ -1,10 +1,9 @@
 -- `argument_of` takes a word of one to six digits for its value, and refuses every other.
-use Rattle.std.proofs.Common.{◌≡◌, ℕ, ◌+◌, ◌*◌, drop, sym, ap, ◌∙◌, arith, rules}
+use Rattle.std.proofs.Common.{◌≡◌, sym, ◌∙◌, arith, rules, get_or}
 use Rattle.std.specs.Prelude.{None}
-use lib.ListN.{get_or}
-use Rattle.wire.proofs.Lists.{all_stop, all_step, all_end}
-use Rattle.command.specs.Grammar.{is_digit, hex_behind, argument_of}
-use Rattle.command.proofs.DigitLaws.{hex_step, hex_end, hex_room, digit_some, digit_none, out_of_size, in_size, not_digits, digits_are}
+use Rattle.wire.proofs.Lists.{all_stop, all_end}
+use Rattle.command.specs.Grammar.{is_digit, argument_of}
+use Rattle.command.proofs.DigitLaws.{hex_end, hex_room, digit_some, digit_none, out_of_size, in_size, not_digits, digits_are}
 use Rattle.command.proofs.argument.argument_of.Goals as goal
 
 pub returns-then-is_empty-w : goal.returns-then-is_empty-w
@@ -27,18 +26,6 @@ returns-in_err-n c =
     let f = digit_none (get_or w c.loop-b.b-index 0) c.in_err-n.ensures in
     let e : argument_of w ≡ None = not_digits w (all_stop is_digit w 0 c.loop-b.b-index (omega arith) f c.loop-b.invariant.2) in
     rw e (search rules)
-
-pub loop-b-preserved : goal.loop-b-preserved
-loop-b-preserved c =
-    let w = c.args.w.now in
-    let i = c.loop-b.b-index in
-    let n = c.loop-b.n in
-    let s = in_size w (rw c.is_empty.ensures at c.if-is_empty-w.false) in
-    let d = digit_some (get_or w i 0) c.in_ok-n.field-0 c.in_ok-n.ensures in (
-      (hex_room n c.in_ok-n.field-0 i (omega arith) d.2 (omega arith)).0,
-      ap (λ (x : ℕ). hex_behind (16 * n + x) (drop (i + 1) w)) (sym d.1) ∙ sym (hex_step n w i (omega arith)) ∙ c.loop-b.invariant.1,
-      all_step is_digit w 0 i (omega arith) d.0 c.loop-b.invariant.2,
-    )
 
 pub returns : goal.returns
 returns c =

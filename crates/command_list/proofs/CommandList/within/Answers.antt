@@ -1,7 +1,5 @@
 -- Of a list that has no entry in use nothing is left to judge but the number of accepted commands.
-use native.Mathlib.Omega.{arith}
-use borrow.Author.Tests.{le-leb, eqb-true}
-use lib.Dec.{leb}
+use Rattle.std.proofs.Common.{arith, le-leb, eqb-true, leb}
 use Rattle.wire.specs.Lists.{keep}
 use Rattle.wire.proofs.Lists.{and_left, and_right}
 use Rattle.command_list.specs.CommandList.{most_commands, loads_in, command_list_within}

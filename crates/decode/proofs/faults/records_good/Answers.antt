@@ -1,17 +1,32 @@
 -- `records_good` has tested, after i turns, the first i records.
-use native.Mathlib.Omega.{arith}
-use Rattle.decode.specs.Read.{records_good}
-use Rattle.wire.proofs.Pieces.{each_start, each_turn, each_end}
+use Rattle.std.specs.Prelude.{ℕ, ◌≡◌, ◌+◌, ◌*◌, ◌<◌, [], get_or}
+use Rattle.std.proofs.Common.{arith}
+use Rattle.std.proofs.Math.Path.{ap, ◌∙◌}
+use Rattle.wire.specs.Bytes.{at32}
+use Rattle.wire.proofs.Pieces.{each_start, each_turn}
+use Rattle.sample_record.specs.Record.{record_good}
+use Rattle.packet.specs.Layout.{body_at}
+use Rattle.decode.specs.Read.{record_at, records_good}
+use Rattle.decode.proofs.Chunks.{chunk_byte}
 use Rattle.decode.proofs.faults.records_good.Goals as goal
 
-pub loop-i-init : goal.loop-i-init
+pub loop-bytes-init : goal.loop-bytes-init
 unfolding records_good
-loop-i-init c = each_start _
+loop-bytes-init c = each_start _
 
-pub loop-i-preserved : goal.loop-i-preserved
+pub loop-bytes-preserved : goal.loop-bytes-preserved
 unfolding records_good
-loop-i-preserved c = each_turn _ c.loop-i.i c.loop-i.invariant c.record_fits-good.ensures
-
-pub returns : goal.returns
-unfolding records_good
-returns c = each_end _ c.loop-i.i c.args.n (omega arith) (omega arith) c.loop-i.invariant
+loop-bytes-preserved c =
+    let xs = c.args.packet.now in
+    let i = c.loop-bytes.bytes-index in
+    let cs = c.as_chunks.result.0.now in
+    let byte : (j m : ℕ) → j < 4 → body_at + (4 * i + j) ≡ m → get_or (get_or cs i []) j 0 ≡ get_or xs m 0 =
+    λ j m l e. ap (λ zs. get_or (get_or zs i []) j 0) c.as_chunks.ensures.front
+    ∙ chunk_byte 4 body_at (body_at + 4 * c.args.n) _ xs i j m (omega arith) l e (omega arith) in
+    let at = body_at + 4 * i in
+    let b0 = byte 0 at (omega arith) (omega arith) in
+    let b1 = byte 1 (at + 1) (omega arith) (omega arith) in
+    let b2 = byte 2 (at + 2) (omega arith) (omega arith) in
+    let b3 = byte 3 (at + 3) (omega arith) (omega arith) in
+    let record-is : at32 (get_or cs i []) 0 ≡ record_at xs i = λ k. 16777216 * b0 k + 65536 * b1 k + 256 * b2 k + b3 k in
+    each_turn _ i c.loop-bytes.invariant (c.record_fits-good.ensures ∙ ap record_good record-is)

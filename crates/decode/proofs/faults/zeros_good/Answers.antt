@@ -1,12 +1,9 @@
 -- `zeros_good` has tested, after i turns, the first i bytes.
-use mathlib.Core.Path.{ap, ◌∙◌}
-use Prim.Native.Nat.{ℕ, ◌+◌, ◌-◌}
-use native.Mathlib.Omega.{arith}
-use lib.Dec.{eqb}
-use lib.ListN.{drop}
+use Rattle.std.specs.Prelude.{ℕ, ◌+◌, ◌-◌, eqb, drop}
+use Rattle.std.proofs.Common.{ap, ◌∙◌, arith}
 use Rattle.std.proofs.lemmas.List.{get_or-take, get_or-drop}
 use Rattle.decode.specs.Read.{zeros_good}
-use Rattle.wire.proofs.Pieces.{each_start, each_turn, each_end}
+use Rattle.wire.proofs.Pieces.{each_start, each_turn}
 use Rattle.decode.proofs.faults.zeros_good.Goals as goal
 
 pub loop-byte-init : goal.loop-byte-init
@@ -21,7 +18,3 @@ loop-byte-preserved c =
     each_turn _ i c.loop-byte.invariant
     (ap (λ (x : ℕ). eqb x 0)
     (get_or-take (a.at + a.n - a.at) (drop a.at a.packet.now) i 0 (omega arith) ∙ get_or-drop a.at a.packet.now i 0))
-
-pub returns : goal.returns
-unfolding zeros_good
-returns c = each_end _ c.loop-byte.byte-index c.args.n (omega arith) (omega arith) c.loop-byte.invariant

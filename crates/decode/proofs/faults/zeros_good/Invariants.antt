@@ -1,5 +1,5 @@
 -- `zeros_good` has tested, after i turns, the first i bytes.
-use mathlib.Core.Path.{◌≡◌}
+use Rattle.std.specs.Prelude.{◌≡◌}
 use Rattle.decode.specs.Read.{zeros_good}
 use Rattle.decode.proofs.faults.zeros_good.Given as goal
 

@@ -1,10 +1,9 @@
 -- `rates` has filled, after i turns, the first i counts, and each code it reads is valid.
-use Rattle.rate_code.specs.Editions.{least_by, valid_by}
+use Rattle.rate_code.specs.Editions.{least_of, valid_of}
 use Rattle.wire.proofs.Pieces.{table_none, table_turn, table_end, each_at}
-use mathlib.Core.Path.{refl, ap, ◌∙◌}
-use native.Mathlib.Omega.{arith}
-use lib.ListN.{length-set}
-use Rattle.decode.specs.Read.{mark_of, rates_of, codes_good}
+use Rattle.std.specs.Prelude.{refl}
+use Rattle.std.proofs.Common.{◌∙◌, arith, length-set}
+use Rattle.decode.specs.Read.{rates_of, codes_good}
 use Rattle.decode.proofs.fields.rates.Goals as goal
 
 pub loop-i-init : goal.loop-i-init
@@ -13,15 +12,15 @@ loop-i-init c = (table_none _, refl)
 
 pub least_count-requires : goal.least_count-requires
 unfolding codes_good
-least_count-requires c = ap (valid_by (mark_of c.args.packet.now)) c.read-code.ensures ∙ each_at _ _ c.loop-i.i (omega arith) c.requires.packet_value
+least_count-requires c =
+    (λ k. valid_of (c.from-edition.ensures k) (c.read-code.ensures k)) ∙ each_at _ _ c.loop-i.i (omega arith) c.requires.packet_value
 
 pub loop-i-preserved : goal.loop-i-preserved
 unfolding rates_of
 loop-i-preserved c =
-    let mark = mark_of c.args.packet.now in
     let i = c.loop-i.i in (
       table_turn _ c.loop-i.counts i (omega arith) c.loop-i.invariant.0
-          (c.least_count.ensures ∙ ap (least_by mark) c.read-code.ensures),
+          (c.least_count.ensures ∙ (λ k. least_of (c.from-edition.ensures k) (c.read-code.ensures k))),
       simp length-set c.loop-i.invariant.1,
     )
 

@@ -1,6 +1,5 @@
 -- `rates` has filled, after i turns, the first i counts, and each code it reads is valid.
-use mathlib.Core.Path.{◌≡◌}
-use lib.ListN.{length, take}
+use Rattle.std.specs.Prelude.{◌≡◌, length, take}
 use Rattle.decode.specs.Read.{rates_of}
 use Rattle.decode.proofs.fields.rates.Given as goal
 

@@ -1,9 +1,5 @@
 -- `missing` has counted, after i turns, those of the first i that have not come.
-use Prim.Native.Nat.{ℕ}
-use mathlib.Core.Path.{◌≡◌, refl, ap, ◌∙◌}
-use mathlib.Core.Bool.{Bool, true, false, not}
-use native.Mathlib.Omega.{arith}
-use lib.ListN.{get_or}
+use Rattle.std.proofs.Common.{ℕ, ◌≡◌, refl, ap, ◌∙◌, Bool, true, false, not, arith, get_or}
 use Rattle.std.specs.Int.{from_bool}
 use Rattle.wire.specs.Bits.{bit_of}
 use Rattle.wire.specs.Pieces.{count_of}

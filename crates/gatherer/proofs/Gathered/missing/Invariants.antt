@@ -1,8 +1,5 @@
 -- `missing` has counted, after i turns, those of the first i that have not come.
-use Prim.Native.Nat.{◌≤◌}
-use mathlib.Core.Path.{◌≡◌}
-use mathlib.Core.Bool.{false, not}
-use lib.ListN.{get_or}
+use Rattle.std.proofs.Common.{◌≤◌, ◌≡◌, false, not, get_or}
 use Rattle.wire.specs.Pieces.{count_of}
 use Rattle.gatherer.proofs.Gathered.missing.Given as goal
 

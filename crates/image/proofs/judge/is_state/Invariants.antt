@@ -1,9 +1,5 @@
 -- After i turns `is_state` has judged the first i entries.
-use Prim.Native.Nat.{ℕ, ◌+◌, ◌*◌}
-use mathlib.Core.Bool.{Bool}
-use mathlib.Core.List.{List}
-use mathlib.Core.Path.{◌≡◌}
-use lib.ListN.{get_or}
+use Rattle.std.proofs.Common.{ℕ, ◌+◌, ◌*◌, Bool, List, ◌≡◌, get_or}
 use Rattle.wire.specs.Bytes.{at32}
 use Rattle.wire.specs.Pieces.{each}
 use Rattle.image.specs.Layout.{entries_at, entry_bytes}
@@ -15,5 +11,5 @@ abbrev pub right : List ℕ → ℕ → Bool
 right b i =
     let at = entries_at + entry_bytes * i in entry_good (get_or b at 0) (at32 b (at + 1))
 
-abbrev pub invariant-loop-i : goal.invariant-loop-i
-invariant-loop-i l = l.ok ≡ each l.i (right l.image)
+abbrev pub invariant-loop-entry : goal.invariant-loop-entry
+invariant-loop-entry l = l.ok ≡ each l.entry-index (right l.image)

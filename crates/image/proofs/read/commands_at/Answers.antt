@@ -1,9 +1,7 @@
 -- `commands_at` has filled, after i turns, the first i commands.
-use mathlib.Core.Path.{refl}
-use native.Mathlib.Omega.{arith}
-use lib.ListN.{length-set}
+use Rattle.std.proofs.Common.{refl, arith, length-set}
 use Rattle.image.specs.Image.{commands_at}
-use Rattle.image.proofs.ListLaws.{waitings_none, waitings_turn, waitings_end}
+use Rattle.image.proofs.ListLaws.{waitings_none, waitings_turn}
 use Rattle.image.proofs.read.commands_at.Goals as goal
 
 pub loop-i-init : goal.loop-i-init
@@ -16,7 +14,3 @@ loop-i-preserved c = (
   waitings_turn _ c.loop-i.entry-items c.loop-i.i (omega arith) c.loop-i.invariant.0 c.entry_at.ensures,
   simp length-set c.loop-i.invariant.1,
 )
-
-pub returns : goal.returns
-unfolding commands_at
-returns c = waitings_end _ c.loop-i.entry-items c.loop-i.i _ (omega arith) (omega arith) c.loop-i.invariant.1 c.loop-i.invariant.0

@@ -1,6 +1,5 @@
 -- `commands_at` has filled, after i turns, the first i commands.
-use mathlib.Core.Path.{◌≡◌}
-use lib.ListN.{length, take}
+use Rattle.std.proofs.Common.{◌≡◌, length, take}
 use Rattle.image.specs.Image.{commands_at}
 use Rattle.image.proofs.read.commands_at.Given as goal
 

@@ -1,7 +1,5 @@
 -- `words_at` has filled, after i turns, the first i words.
-use mathlib.Core.Path.{refl}
-use native.Mathlib.Omega.{arith}
-use lib.ListN.{length-set}
+use Rattle.std.proofs.Common.{refl, arith, length-set}
 use Rattle.wire.proofs.Pieces.{table_none, table_turn}
 use Rattle.image.specs.Image.{numbers_at}
 use Rattle.image.proofs.read.words_at.Goals as goal

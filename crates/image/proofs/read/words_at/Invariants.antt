@@ -1,6 +1,5 @@
 -- `words_at` has filled, after i turns, the first i words.
-use mathlib.Core.Path.{◌≡◌}
-use lib.ListN.{length, take}
+use Rattle.std.proofs.Common.{◌≡◌, length, take}
 use Rattle.image.specs.Image.{numbers_at}
 use Rattle.image.proofs.read.words_at.Given as goal
 

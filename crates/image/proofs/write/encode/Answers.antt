@@ -1,10 +1,5 @@
 -- `encode` puts the parts in a row, and they are the whole image.
-use borrow.Author.Rules.{rules}
-use Prim.Native.Nat.{ℕ}
-use mathlib.Core.Path.{◌≡◌, refl, ◌∙◌}
-use mathlib.Core.List.{List, ◌++◌}
-use native.Mathlib.Omega.{arith}
-use lib.ListN.{length, length-append}
+use Rattle.std.proofs.Common.{rules, ℕ, ◌≡◌, refl, ◌∙◌, List, ◌++◌, arith, length, length-append}
 use Rattle.wire.specs.Bytes.{be16}
 use Rattle.wire.proofs.Bytes.{then, put_all}
 use Rattle.image.specs.Image.{two, interval_bytes, settings_image, command_list_bytes, image_of}

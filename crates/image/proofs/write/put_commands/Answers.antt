@@ -1,11 +1,5 @@
 -- After i commands `put_commands` has put the six bytes of each of the first i, in order.
-use borrow.Author.Rules.{rules}
-use Prim.Native.Nat.{ℕ, ◌+◌, ◌*◌}
-use mathlib.Core.Path.{◌≡◌, ap, refl, sym, ◌∙◌}
-use mathlib.Core.List.{List}
-use native.Mathlib.Omega.{arith}
-use lib.ListN.{length, take, get_or}
-use lib.Seq.{take_all}
+use Rattle.std.proofs.Common.{rules, ℕ, ◌+◌, ◌*◌, ◌≡◌, ap, refl, sym, ◌∙◌, List, arith, length, take, get_or}
 use Rattle.wire.specs.Bytes.{put}
 use Rattle.wire.proofs.Bytes.{put_put, put_nil}
 use Rattle.command_list.specs.CommandList.{filler}
@@ -32,9 +26,3 @@ loop-i-preserved c =
           ∙ ap (λ (v : List ℕ). put xs a.at v) (sym (commands_take ws i (omega arith))),
       omega arith,
     )
-
-pub returns : goal.returns
-returns c =
-    let a = c.args in
-    let n : length a.waiting.now ≡ 32 = search rules in
-    c.loop-i.invariant.0 ∙ ap (λ v. put a.image.now a.at (commands_bytes v)) (take_all c.loop-i.i a.waiting.now (omega arith))

@@ -1,6 +1,5 @@
 -- After i commands `put_commands` has put the six bytes of each of the first i, in order.
-use mathlib.Core.Path.{◌≡◌}
-use lib.ListN.{length, take}
+use Rattle.std.proofs.Common.{◌≡◌, length, take}
 use Rattle.wire.specs.Bytes.{put}
 use Rattle.image.specs.Image.{commands_bytes}
 use Rattle.image.proofs.write.put_commands.Given as goal

@@ -1,6 +1,5 @@
 -- `write_place` puts three zeros, the frame and the address in a row.
-use mathlib.Core.Path.{refl}
-use native.Mathlib.Omega.{arith}
+use Rattle.std.proofs.Common.{refl, arith}
 use Rattle.wire.proofs.Bytes.{then}
 use Rattle.listing_packet.specs.Listing.{place_bytes}
 use Rattle.listing_packet.proofs.write.write_place.Goals as goal

@@ -1,5 +1,5 @@
 -- `none_of_eight` asks whether the byte is zero.
-use native.Mathlib.Omega.{arith}
+use Rattle.std.proofs.Common.{arith}
 use Rattle.wire.proofs.BitLaws.{no_bits}
 use Rattle.load.proofs.bitmap.none_of_eight.Goals as goal
 

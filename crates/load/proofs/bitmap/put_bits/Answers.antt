@@ -1,6 +1,5 @@
 -- `put_bits` puts the bits before the whole bytes, those, and the bits behind them.
-use Prim.Native.Nat.{ℕ, ◌+◌, ◌-◌, ◌*◌, ◌/◌}
-use native.Mathlib.Omega.{arith}
+use Rattle.std.proofs.Common.{ℕ, ◌+◌, ◌-◌, ◌*◌, ◌/◌, arith}
 use Rattle.load.proofs.BitmapLaws.{then_bitmap}
 use Rattle.load.proofs.bitmap.put_bits.Goals as goal
 

@@ -1,6 +1,5 @@
 -- `put_each` has put, after i turns, the bits of the first i staged bytes.
-use Rattle.std.proofs.Common.{◌≡◌, ℕ, ◌+◌, List, length, refl, ap, ◌∙◌, arith, add-one}
-use lib.ListN.{length-set}
+use Rattle.std.proofs.Common.{ℕ, ◌+◌, List, length, refl, ap, ◌∙◌, add-one, length-set}
 use Rattle.load.specs.Bitmap.{with_bad, bitmap_after}
 use Rattle.load.proofs.bitmap.put_each.Goals as goal
 
@@ -16,9 +15,3 @@ loop-i-preserved c =
       rw add-one (e ∙ ap (λ (x : List ℕ). with_bad x (a.next + c.loop-i.i) a.bad) c.loop-i.invariant.0),
       ap length e ∙ length-set c.loop-i.bitmap _ _ ∙ c.loop-i.invariant.1,
     )
-
-pub returns : goal.returns
-returns c =
-    let a = c.args in
-    let e : c.loop-i.i ≡ a.n = omega arith in
-    c.loop-i.invariant.0 ∙ ap (λ (k : ℕ). bitmap_after a.bitmap.now a.next k a.bad) e

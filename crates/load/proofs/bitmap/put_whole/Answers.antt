@@ -1,6 +1,5 @@
 -- `put_whole` fills whole bytes of the bitmap.
-use Rattle.std.proofs.Common.{◌≡◌, ℕ, ◌+◌, ◌-◌, ap, ◌∙◌, arith, rules}
-use lib.ListN.{length, take, drop, replicate}
+use Rattle.std.proofs.Common.{◌≡◌, ℕ, ◌+◌, ◌-◌, ap, ◌∙◌, arith, rules, length, take, drop, replicate}
 use Rattle.wire.specs.Bytes.{put}
 use Rattle.wire.proofs.Bytes.{put_mid_lem, length_part}
 use Rattle.load.proofs.BitmapLaws.{filled_bits}

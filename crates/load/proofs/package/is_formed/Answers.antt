@@ -1,5 +1,6 @@
 -- `is_formed` reads the count only of a package that has one, and compares it with the bytes that came.
-use borrow.Author.Tests.{le-leb, lt-leb}
+use Rattle.std.proofs.Common.{le-leb}
+use borrow.Author.Tests.{lt-leb}
 use Rattle.load.specs.Staging.{formed}
 use Rattle.load.proofs.package.is_formed.Goals as goal
 

@@ -1,6 +1,5 @@
 -- `write_sum` puts the byte sum behind the 271 bytes that it was taken of.
-use Prim.Native.Nat.{ℕ, ◌%◌}
-use mathlib.Core.Path.{ap}
+use Rattle.std.proofs.Common.{ℕ, ◌%◌, ap}
 use Rattle.packet.proofs.Written.{sum_written}
 use Rattle.packet.proofs.envelope.write_sum.Goals as goal
 

@@ -1,19 +1,11 @@
 -- `add_row` has added, after j turns, the first j bytes of the row, and left the other columns as they were.
-use mathlib.Core.Path.{refl, ◌∙◌}
-use native.Mathlib.Omega.{arith}
-use lib.ListN.{length-set}
-use lib.Seq.{get_or-set_other}
+use Rattle.std.proofs.Common.{refl, ◌∙◌, arith, length-set, get_or-set_other}
 use Rattle.wire.proofs.Pieces.{table_none, table_turn, table_end}
 use Rattle.packet.specs.TableSum.{added_row}
 use Rattle.packet.proofs.table_sum.add_row.Goals as goal
 
 pub loop-j-init : goal.loop-j-init
-loop-j-init c = (c.requires.0, table_none _, λ k h. refl)
-
-pub overflow_add-column : goal.overflow_add-column
-overflow_add-column c =
-    let j = c.loop-j.j in
-    omega (arith, c.from.ensures, c.loop-j.invariant.2 j (omega arith), c.requires.1 j)
+loop-j-init c = (c.told-columns, table_none _, λ k h. refl)
 
 pub loop-j-preserved : goal.loop-j-preserved
 loop-j-preserved c =

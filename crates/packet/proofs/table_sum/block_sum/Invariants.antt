@@ -3,4 +3,4 @@ use Rattle.packet.proofs.WordSums.{Joined}
 use Rattle.packet.proofs.table_sum.block_sum.Given as goal
 
 abbrev pub invariant-loop-r : goal.invariant-loop-r
-invariant-loop-r l = Joined l.tables l.at l.r l.columns
+invariant-loop-r l = Joined l.block 0 l.r l.columns

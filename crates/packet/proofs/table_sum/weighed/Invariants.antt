@@ -1,8 +1,7 @@
--- `weighed` has added, after k turns, the first k words of the columns.
-use Prim.Native.Nat.{◌≤◌, ◌*◌}
-use mathlib.Core.Path.{◌≡◌}
+-- `weighed` has added, turn by turn, the first words of the columns.
+use Rattle.std.proofs.Common.{◌≡◌, ◌≤◌, ◌*◌}
 use Rattle.packet.specs.TableSum.{word_sum}
 use Rattle.packet.proofs.table_sum.weighed.Given as goal
 
-abbrev pub invariant-loop-k : goal.invariant-loop-k
-invariant-loop-k l = (l.sum ≤ 4311810048 * l.k) × (l.sum ≡ word_sum l.columns 0 l.k)
+abbrev pub invariant-loop-word : goal.invariant-loop-word
+invariant-loop-word l = (l.sum ≤ 4311810048 * l.word-index) × (l.sum ≡ word_sum l.columns 0 l.word-index)

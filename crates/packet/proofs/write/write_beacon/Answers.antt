@@ -1,9 +1,5 @@
 -- `write_beacon` puts codes and then zeros from byte 11 to the frame: the body of the beacon packet.
-use Prim.Native.Nat.{ℕ, ◌*◌}
-use mathlib.Core.Path.{◌≡◌, sym, ap, ◌∙◌}
-use mathlib.Core.List.{List, ◌++◌}
-use native.Mathlib.Omega.{arith}
-use lib.ListN.{length}
+use Rattle.std.proofs.Common.{ℕ, ◌*◌, ◌≡◌, sym, ap, ◌∙◌, List, ◌++◌, arith, length}
 use Rattle.wire.specs.Bytes.{zeros}
 use Rattle.wire.proofs.Bytes.{then}
 use Rattle.boxes.specs.Boxes.{beacon_count}

@@ -1,9 +1,5 @@
 -- `write_codes` has put, after i turns, the second edition's codes of the first i counts one behind the other.
-use Prim.Native.Nat.{ℕ, ◌+◌, ◌*◌}
-use mathlib.Core.Path.{◌≡◌, refl, sym, ap, ◌∙◌}
-use mathlib.Core.List.{◌++◌}
-use native.Mathlib.Omega.{arith}
-use lib.ListN.{length, take}
+use Rattle.std.proofs.Common.{ℕ, ◌+◌, ◌*◌, ◌≡◌, refl, sym, ap, ◌∙◌, ◌++◌, arith, length, take}
 use Rattle.wire.specs.Bytes.{put, be16}
 use Rattle.wire.proofs.Bytes.{then, put_nil}
 use Rattle.rate_code.specs.Editions.{second_mark}

@@ -1,6 +1,5 @@
 -- `write_codes` has put, after i turns, the second edition's codes of the first i counts one behind the other.
-use mathlib.Core.Path.{◌≡◌}
-use lib.ListN.{length, take}
+use Rattle.std.proofs.Common.{◌≡◌, length, take}
 use Rattle.wire.specs.Bytes.{put}
 use Rattle.rate_code.specs.Editions.{second_mark}
 use Rattle.packet.specs.Packet.{codes}

@@ -1,10 +1,5 @@
 -- `write_rate` puts codes, settings and table sum in a row from byte 11 on: the body of the rate packet.
-use Prim.Native.Nat.{ℕ, ◌*◌}
-use mathlib.Core.Path.{◌≡◌, sym, ap, ◌∙◌}
-use mathlib.Core.List.{List, ◌++◌}
-use native.Mathlib.Omega.{arith}
-use borrow.Author.Rules.{rules}
-use lib.ListN.{length, length-append}
+use Rattle.std.proofs.Common.{ℕ, ◌*◌, ◌≡◌, sym, ap, ◌∙◌, List, ◌++◌, arith, rules, length, length-append}
 use Rattle.wire.proofs.Bytes.{then}
 use Rattle.boxes.specs.Boxes.{box_count, total_count}
 use Rattle.packet.specs.Layout.{body_at, code_bytes, rate_count, boxes_at, gap_at}

@@ -1,6 +1,5 @@
 -- `write_samples` puts the record words from byte 11 on: the body of the sample packet.
-use mathlib.Core.Path.{ap, ◌∙◌}
-use Prim.Native.Nat.{ℕ}
+use Rattle.std.proofs.Common.{ap, ◌∙◌, ℕ}
 use Rattle.wire.specs.Bytes.{words}
 use Rattle.packet.specs.Packet.{packet_of, sample_packet}
 use Rattle.packet.proofs.Written.{length_sample_body, packet_written}

@@ -1,5 +1,5 @@
 -- Each number of `fill_counts`, and every count that it writes, is below 2^24.
-use Prim.Native.Nat.{◌<◌}
+use Rattle.std.proofs.Common.{◌<◌}
 use Rattle.wire.specs.Lists.{EachBelow}
 use Rattle.rate_code.specs.Rate.{count_limit}
 use Rattle.packet_cases.proofs.values.fill_counts.Given as goal

@@ -1,5 +1,5 @@
 -- Each number of `fill_records` is below 2^24.
-use Prim.Native.Nat.{◌<◌}
+use Rattle.std.proofs.Common.{◌<◌}
 use Rattle.rate_code.specs.Rate.{count_limit}
 use Rattle.packet_cases.proofs.values.fill_records.Given as goal
 

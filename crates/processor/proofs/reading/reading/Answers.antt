@@ -1,5 +1,5 @@
 -- A reading that is judged right has what `take_reading` requires.
-use mathlib.Core.Path.{sym}
+use Rattle.std.proofs.Common.{sym}
 use Rattle.take_reading.proofs.ReadingLaws.{reading_taken}
 use Rattle.processor.proofs.reading.reading.Goals as goal
 

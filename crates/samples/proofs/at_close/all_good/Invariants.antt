@@ -1,7 +1,5 @@
 -- What `all_good` has found and what the slots ahead hold are together what all slots hold.
-use mathlib.Core.Bool.{◌&&◌}
-use mathlib.Core.Path.{◌≡◌}
-use lib.ListN.{drop}
+use Rattle.std.proofs.Common.{◌&&◌, ◌≡◌, drop}
 use Rattle.wire.specs.Lists.{all}
 use Rattle.sample_record.specs.Record.{record_good}
 use Rattle.samples.proofs.at_close.all_good.Given as goal

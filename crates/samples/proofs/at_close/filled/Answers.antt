@@ -1,8 +1,6 @@
 -- In the end `filled` has counted all slots.
-use Rattle.std.proofs.Common.{◌≡◌, ◌∙◌, arith}
+use Rattle.std.proofs.Common.{◌≡◌, ◌∙◌, arith, count_by, ltb}
 use Rattle.std.proofs.lemmas.Grind.{common_steps}
-use Rattle.std.specs.Prelude.{count_by}
-use lib.Dec.{ltb}
 use Rattle.samples.proofs.SampleLaws.{filled_count}
 use Rattle.samples.proofs.at_close.filled.Goals as goal
 

@@ -1,7 +1,5 @@
 -- The scan of `all_at_most` has tested what is behind it, and `all` of the rest is still to be tested.
-use mathlib.Core.Bool.{◌&&◌}
-use mathlib.Core.Path.{◌≡◌}
-use lib.ListN.{drop}
+use Rattle.std.proofs.Common.{◌&&◌, ◌≡◌, drop}
 use Rattle.wire.specs.Lists.{all, at_most}
 use Rattle.state.proofs.interval.all_at_most.Given as goal
 

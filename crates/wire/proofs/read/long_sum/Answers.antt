@@ -1,17 +1,11 @@
--- The bytes behind the last whole 32 and those before them are together the total.
-use Prim.Native.Nat.{ℕ, ◌-◌, ◌*◌, ◌/◌}
-use mathlib.Core.Path.{ap}
-use mathlib.Core.List.{List}
-use native.Mathlib.Omega.{arith}
-use lib.ListN.{length, drop, length-drop, length-take}
-use lib.Seq.{take_all}
-use Rattle.wire.specs.Bytes.{total}
+-- The chunks passed and the bytes behind them are together the total.
+use Rattle.std.proofs.Common.{◌/◌, length, arith}
+use Rattle.wire.proofs.Bytes.{total_chunk}
 use Rattle.wire.proofs.read.long_sum.Goals as goal
 
-pub returns : goal.returns
-returns c =
+pub loop-chunk-preserved : goal.loop-chunk-preserved
+loop-chunk-preserved c =
     let p = c.args.part.now in
-    let rest : List ℕ = drop (32 * (length p / 32)) p in
-    let l = length-drop (32 * (length p / 32)) p in
-    let e = ap total (take_all (length p - 32 * (length p / 32)) rest (omega (arith, l))) in
-    (omega (arith, e), omega (arith, l, length-take (length p - 32 * (length p / 32)) rest))
+    let i = c.loop-chunk.chunk-index in
+    let h = total_chunk 32 (length p / 32) i p c.as_chunks.result.0.now c.as_chunks.ensures.front (omega arith) in
+    (omega arith, omega (arith, h))

@@ -1,11 +1,6 @@
 -- A byte more is the next of the source.
-use Prim.Native.Nat.{ℕ, ◌+◌}
-use mathlib.Core.Path.{◌≡◌, refl, ap, ◌∙◌}
-use mathlib.Core.List.{List, ◌++◌}
-use native.Mathlib.Omega.{arith}
-use native.Mathlib.Numerals.{add-one}
-use lib.ListN.{length, take, get_or, length-set}
-use lib.Seq.{take-suc, length-take-le}
+use Rattle.std.proofs.Common.{ℕ, ◌+◌, ◌≡◌, refl, ap, ◌∙◌, List, ◌++◌, arith, add-one, length, take, get_or, length-set, take-suc}
+use Rattle.std.proofs.Common.{length-take-le}
 use Rattle.wire.specs.Bytes.{put, one}
 use Rattle.wire.proofs.Bytes.{put_sets, then, put_nil}
 use Rattle.wire.proofs.write.put_bytes.Goals as goal

@@ -1,8 +1,7 @@
 -- `put_u24` sets three places in a row, the high byte first.
-use Prim.Native.Nat.{suc, ◌+◌}
-use mathlib.Core.Path.{◌≡◌}
-use native.Mathlib.Omega.{arith}
-use lib.ListN.{length-set}
+use Rattle.std.proofs.Common.{ℕ, ◌≡◌, ◌+◌, ◌/◌, ◌∙◌, List, ap, suc, arith}
+use Rattle.std.specs.Prelude.{get_or}
+use Rattle.std.proofs.lemmas.List.{length-set}
 use Rattle.wire.specs.Bytes.{be24}
 use Rattle.wire.proofs.Bytes.{put_sets}
 use Rattle.wire.proofs.write.put_u24.Goals as goal
@@ -16,6 +15,11 @@ bounds-part-at-3 c = simp length-set (omega arith)
 pub returns : goal.returns
 returns c =
     let a = c.args in
+    let e = c.to_be_bytes.ensures in
+    let high : get_or c.to_be_bytes.result 1 0 ≡ a.v / 65536 =
+    ap (λ (l : List ℕ). get_or l 1 0) e ∙ omega (arith, c.requires.v_bound) in
+    let middle = ap (λ (l : List ℕ). get_or l 2 0) e in
+    let low = ap (λ (l : List ℕ). get_or l 3 0) e in
     let e1 : a.at + 1 ≡ suc a.at = omega arith in
     let e2 : a.at + 2 ≡ suc (suc a.at) = omega arith in
-    rw (e1, e2) (put_sets (be24 a.v) a.part.now a.at (omega arith))
+    rw (high, middle, low, e1, e2) (put_sets (be24 a.v) a.part.now a.at (omega arith))

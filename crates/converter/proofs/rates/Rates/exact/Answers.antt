@@ -1,5 +1,5 @@
 -- `exact` has tested, after i turns, the first i rates.
-use mathlib.Core.Path.{ap, ◌∙◌}
+use Rattle.std.proofs.Common.{ap, ◌∙◌}
 use Rattle.wire.proofs.Pieces.{each_start, each_turn}
 use Rattle.rate_code.specs.Editions.{first_mark, exact_by}
 use Rattle.converter.specs.Convert.{rates_exact}

@@ -1,5 +1,5 @@
 -- `exact` has tested, after i turns, the first i rates.
-use mathlib.Core.Path.{◌≡◌}
+use Rattle.std.proofs.Common.{◌≡◌}
 use Rattle.rate_code.specs.Editions.{first_mark}
 use Rattle.converter.specs.Convert.{rates_exact}
 use Rattle.converter.proofs.rates.Rates.exact.Given as goal

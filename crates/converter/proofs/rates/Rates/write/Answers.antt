@@ -1,14 +1,11 @@
 -- `write` has put, after i turns, the codes wanted of the first i rates one behind the other.
-use Prim.Native.Nat.{ℕ, ◌+◌, ◌*◌}
-use mathlib.Core.Path.{◌≡◌, refl, sym, ap, ◌∙◌}
-use mathlib.Core.List.{List, ◌++◌}
-use native.Mathlib.Omega.{arith}
-use lib.ListN.{length}
+use Rattle.std.proofs.Common.{ℕ, ◌+◌, ◌*◌, ◌≡◌, refl, sym, ap, ◌∙◌, List, ◌++◌, arith, length}
 use Rattle.wire.specs.Bytes.{put, be16, one}
 use Rattle.wire.proofs.Bytes.{then, put_nil}
 use Rattle.wire.specs.Pieces.{runs, table}
 use Rattle.wire.proofs.Pieces.{table_more, runs_one}
-use Rattle.rate_code.specs.Editions.{code_by}
+use Rattle.rate_code.specs.Editions.{mark_in, code_of, code_by}
+use Rattle.rate_code.proofs.EditionLaws.{edition_again}
 use Rattle.packet.specs.Layout.{body_at, code_bytes}
 use Rattle.packet.specs.Packet.{codes}
 use Rattle.packet.proofs.Written.{codes_append}
@@ -34,10 +31,10 @@ loop-i-preserved c =
     let a = c.args in
     let xs = a.self.now.packet.now in
     let i = c.loop-i.i in
-    let w = a.wanted in
+    let w = mark_in a.wanted in
     let old : List ℕ = codes w (rates_of i xs) in
     let lc : length old ≡ code_bytes * i = length_new w i xs in
-    let r = c.encode-code.ensures ∙ ap (code_by w) c.rate.ensures.0 in (
+    let r = c.encode-code.ensures ∙ (λ k. code_of (sym (edition_again a.wanted) k) (c.rate.ensures.0 k)) in (
       then a.out.now body_at old (be16 _) (body_at + code_bytes * i) c.loop-i.invariant.0 c.put.ensures
           (omega arith) (omega (arith, c.requires, a.self.now.fits))
           ∙ ap (λ (v : ℕ). put a.out.now body_at (old ++ be16 v)) r

@@ -1,6 +1,5 @@
 -- `least_count` shifts a quotient below 4,096 by at most 12, which 32 bits hold.
-use native.Mathlib.Omega.{arith}
-use native.Mathlib.Nat.{mod-eq_of_lt}
+use Rattle.std.proofs.Common.{arith, mod-eq_of_lt}
 use Rattle.rate_code.specs.Rate.{least_count}
 use Rattle.rate_code.proofs.Codes.{least_below}
 use Rattle.rate_code.proofs.first.FirstRateCode.least_count.Goals as goal

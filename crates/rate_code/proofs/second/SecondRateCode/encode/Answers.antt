@@ -1,8 +1,7 @@
 -- `encode` takes e from the leading zeros.
-use mathlib.Core.Path.{sym}
-use Prim.Native.Nat.{◌-◌}
-use native.Mathlib.Omega.{arith}
-use lib.Count.{count_leading_zeros}
+use Rattle.std.specs.Prelude.{◌-◌}
+use Rattle.std.proofs.Common.{sym, arith}
+use Rattle.std.specs.Int.Count.{count_leading_zeros}
 use Rattle.rate_code.proofs.Codes.{bits}
 use Rattle.rate_code.proofs.SecondCodes.{Spread, spread, second_low, second_valid_lem, code_spread, low, high}
 use Rattle.rate_code.proofs.second.SecondRateCode.encode.Goals.{Else-n-lt4096}
@@ -22,14 +21,6 @@ returns-clause-code c = sym (code_spread _ _ (from_4096 (goal.at.returns-clause-
 
 pub overflow_sub-result : goal.overflow_sub-result
 overflow_sub-result c = (from_4096 (goal.at.overflow_sub-result c).Else-n-lt4096).least
-
-pub overflow_add-result : goal.overflow_add-result
-overflow_add-result c =
-    let s = from_4096 (goal.at.overflow_add-result c).Else-n-lt4096 in omega (arith, s.most, low _ _ s, high _ _ s)
-
-pub overflow_sub-result-2 : goal.overflow_sub-result-2
-overflow_sub-result-2 c =
-    let s = from_4096 (goal.at.overflow_sub-result-2 c).Else-n-lt4096 in omega (arith, s.most, low _ _ s, high _ _ s)
 
 pub overflow_cast-result-2 : goal.overflow_cast-result-2
 overflow_cast-result-2 c =

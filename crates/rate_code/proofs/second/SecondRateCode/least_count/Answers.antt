@@ -1,8 +1,5 @@
 -- `least_count` shifts a number below 8,192 by at most 11, which 32 bits hold.
-use mathlib.Core.Path.{sym, ◌∙◌}
-use native.Mathlib.Omega.{arith}
-use native.Mathlib.Nat.{mod-eq_of_lt}
-use borrow.Author.Tests.{ltb-true}
+use Rattle.std.proofs.Common.{sym, ◌∙◌, arith, mod-eq_of_lt, ltb-true}
 use Rattle.rate_code.specs.Second.{second_valid}
 use Rattle.rate_code.proofs.SecondCodes.{second_least_below, least_low, least_high}
 use Rattle.rate_code.proofs.second.SecondRateCode.least_count.Goals as goal

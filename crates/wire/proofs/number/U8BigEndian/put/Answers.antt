@@ -1,5 +1,5 @@
 -- A byte sets one place, which is putting a list of one byte.
-use native.Mathlib.Omega.{arith}
+use Rattle.std.proofs.Common.{arith}
 use Rattle.wire.specs.Bytes.{one}
 use Rattle.wire.proofs.Bytes.{put_sets}
 use Rattle.wire.proofs.number.U8BigEndian.put.Goals as goal

@@ -1,2 +1,0 @@
--- Laws of buffered input, which the programs' proofs cite too.
-pub mod InputLaws

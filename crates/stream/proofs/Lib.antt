@@ -1,2 +1,0 @@
--- Laws of records, which the programs' proofs cite too.
-pub mod RecordLaws
