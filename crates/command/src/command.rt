@@ -21,8 +21,8 @@ pub enum Setting {
 pub enum Command {
     // The setting, and its new value.
     Set(Setting, u16),
-    // The address of the first word, and the y by which the bytes are packed. It stays a number: the state's image holds any byte
-    // there, and the limits refuse one that stands for no way to pack.
+    // The address of the first word, and the y by which the bytes are packed: the line's two numbers, which a struct would only name
+    // once more. y stays a number: the state's image holds any byte there, and the limits refuse one that stands for no way to pack.
     Load(u32, u8),
 }
 

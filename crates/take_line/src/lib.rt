@@ -23,7 +23,8 @@ use load::staging::{Addresses, Staging};
 use state::State;
 
 // The cause 15 or 16 of a line about a load, or the sum that it returns: that of the staged bytes for an ask. Staging is
-// read once, and only where no byte is bad.
+// read once, and only where no byte is bad. Staging, its bitmap and its reach come apart, as the call is lent the first two and the
+// state has the third.
 fn judge_staged(
     traits: Traits,
     staging: &Staging,
