@@ -12,18 +12,6 @@ use Rattle.take_line.specs.Line.{LineDone, line_lent}
 use Rattle.processor.proofs.Lent.{failed, passed, other_first, other_second, other_last, line_unlent, line_judged}
 use Rattle.processor.proofs.line.line.Goals as goal
 
-pub returns-in_default : goal.returns-in_default
-returns-in_default c =
-    let a = c.args in
-    let l : line_lent (length a.staging.now) (length a.bitmap.now) (length a.echo.now) ≡ false = other_first _ _ _ _ _ _ c.in_default.ensures.1 in
-    let e = line_unlent a.state.now a.line.now a.staging.now a.bitmap.now a.echo.now l in
-    record {
-      number = ap (λ (d : LineDone). d.answer.number) e;
-      state = ap (λ (d : LineDone). d.answer.state) e;
-      sum = search rules;
-      echo = ap (λ (d : LineDone). d.echo) e;
-    }
-
 pub returns-in_default-try_from : goal.returns-in_default-try_from
 returns-in_default-try_from c =
     let a = c.args in

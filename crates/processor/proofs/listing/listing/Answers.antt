@@ -62,15 +62,3 @@ write_listing-requires c =
     let o : length c.in-Some.out.now ≡ packet_bytes = ap length c.in-Some.ensures.cases.same ∙ c.in-Some.ensures.cases.long in
     let l = ltb-true c.args.i listing_packets (listed (goal.at.write_listing-requires c).In_ok-check-2) in
     (o, omega (arith, c.from-2.ensures))
-
-pub returns : goal.returns
-returns c =
-    let a = c.args in
-    let t : length a.tables.now ≡ table_bytes = c.in-Ok.ensures.1.long in
-    let o : length a.out.now ≡ packet_bytes = c.in-Some.ensures.cases.long in
-    let w : within_limits a.state.now ≡ true = within (goal.at.returns c).In_ok-check in
-    let e = listing_judged a.state.now a.i a.time a.tables.now a.out.now true true t o w (listed (goal.at.returns c).In_ok-check-2) in
-    record {
-      number = ap (λ (d : ListingDone). d.number) e;
-      out = (rw (c.in-Ok.ensures.1.same, c.from-2.ensures) at c.write_listing.ensures) ∙ ap (λ (d : ListingDone). d.out) e;
-    }

@@ -54,24 +54,6 @@ returns-in_default-as_mut_array-2 c =
       echo = ap (λ (d : PackageDone). d.echo) e;
     }
 
-pub returns-in_err-sent : goal.returns-in_err-sent
-returns-in_err-sent c =
-    let a = c.args in
-    let s : length a.staging.now ≡ staging_bytes = c.in-Some.ensures.cases.long in
-    let b : length a.bitmap.now ≡ bitmap_bytes = c.in-Some-as_mut_array.ensures.cases.long in
-    let o : length a.echo.now ≡ echo_bytes = c.in-Some-as_mut_array-2.ensures.cases.long in
-    let x : Cause = c.in_err-sent.field-0.0 in
-    let n : call_number c.from_residual.result ≡ cause_number x = search rules in
-    let e =
-    package_refused a.state.now a.bytes.now a.staging.now a.bitmap.now a.echo.now s b o (cause_number x) c.in_err-sent.ensures.0 c.in_err-sent.ensures.1 in
-    record {
-      number = n ∙ ap (λ (d : PackageDone). d.answer.number) e;
-      state = ap (λ (d : PackageDone). d.answer.state) e;
-      staging = c.in-Some.ensures.cases.same ∙ ap (λ (d : PackageDone). d.staging) e;
-      bitmap = c.in-Some-as_mut_array.ensures.cases.same ∙ ap (λ (d : PackageDone). d.bitmap) e;
-      echo = c.in-Some-as_mut_array-2.ensures.cases.same ∙ ap (λ (d : PackageDone). d.echo) e;
-    }
-
 -- the answer of a package that is staged
 told : {A : Type 0} (right : Bool) (u : A) → call_number (cond (not (not right)) (Ok u) (Err PackageSum)) ≡ cond right carried_out package_sum
 told true u = refl
