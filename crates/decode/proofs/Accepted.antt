@@ -1,15 +1,17 @@
 -- A reader accepts every packet that a writer writes, and finds in it what went in, by kind. Assumes nothing.
-use Rattle.std.specs.Prelude.{Option, Some, ◌≡◌, refl, true, List, ◌++◌, map, ℕ, ◌+◌, ◌*◌, ◌/◌, ◌%◌, ◌≤◌, ◌<◌, length, get_or}
+use Rattle.std.specs.Prelude.{Option, Some, ◌≡◌, refl, true, List, ◌++◌, map, ℕ, ◌+◌, ◌*◌, ◌%◌, ◌≤◌, ◌<◌, length, get_or}
 use Rattle.std.proofs.Common.{sym, ap, ◌∙◌, arith, length-append, eq-eqb, ne_eqb, le-leb}
 use Rattle.std.proofs.Math.ListN.{length-map, get_or-replicate}
 use Rattle.wire.specs.Bits.{bit_of}
 use Rattle.wire.specs.Bytes.{at16, words, zeros}
 use Rattle.wire.specs.Lists.{EachBelow}
-use Rattle.wire.proofs.BitLaws.{bit_small, bit_back}
+use Rattle.wire.proofs.BitLaws.{bit_small}
 use Rattle.wire.proofs.Bytes.{value16, value24}
 use Rattle.wire.proofs.Lists.{all_get, map_at, each_append}
 use Rattle.wire.proofs.Pieces.{table_is, each_all}
 use Rattle.settings.specs.declared.Settings.{Settings}
+use Rattle.settings.specs.Settings.{settings_by}
+use Rattle.settings.proofs.FlagLaws.{flags_back as own_flags}
 use Rattle.boxes.specs.Boxes.{beacon_count}
 use Rattle.sample_record.specs.Record.{record_good}
 use Rattle.packet.specs.declared.stamp.Stamp.{Stamp}
@@ -17,7 +19,7 @@ use Rattle.rate_code.specs.Rate.{count_limit}
 use Rattle.rate_code.specs.Editions.{code_by, least_by, valid_by}
 use Rattle.packet.specs.Layout.{body_at, inner_bytes, secondary_flag, body_bytes, code_bytes}
 use Rattle.packet.specs.Layout.{rate_count, record_count, beacon_end, beacon_unused}
-use Rattle.packet.specs.Layout.{gap_at, hvstep_at, limhi_at, hv_flag, eonly_flag, toferror_flag, junk_flag}
+use Rattle.packet.specs.Layout.{gap_at, hvstep_at, limhi_at, junk_flag}
 use Rattle.packet.specs.Packet.{rate_application, sample_application, beacon_application, application_of_sample, stamp_of, trailer, packet_of}
 use Rattle.packet.specs.Packet.{codes, settings_flags, settings_bytes, rate_body, beacon_body}
 use Rattle.decode.specs.declared.kind.Kind.{Kind}
@@ -157,18 +159,7 @@ module _ (st : Stamp) (fits : StampFits last_mark st) (totals boxes : List ℕ) 
 
   pub settings_back : settings_of rate_is ≡ s
   unfolding settings_of
-  settings_back =
-      let h = flags_le s in
-      let flag : (value x : ℕ) → settings_flags s / value % 2 ≡ x → flag_byte rate_is / value % 2 ≡ x =
-      λ value x e. ap (λ (n : ℕ). n / value % 2) flags_back ∙ e in
-      λ i. record {
-        limhi = limhi_back i;
-        eonly = bit_back s.eonly _ (flag eonly_flag _ (omega arith)) i;
-        toferror = bit_back s.toferror _ (flag toferror_flag _ (omega arith)) i;
-        junk = bit_back s.junk _ (flag junk_flag _ (omega arith)) i;
-        hv = bit_back s.hv _ (flag hv_flag _ (omega arith)) i;
-        hvstep = hvstep_back i;
-      }
+  settings_back = (λ i. settings_by (flags_back i) (limhi_back i) (hvstep_back i)) ∙ own_flags s
 
   rate_good_back : rate_good rate_is ≡ true
   unfolding rate_good

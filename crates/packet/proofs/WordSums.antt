@@ -5,7 +5,7 @@ use Rattle.std.proofs.lemmas.List.{get_or-take}
 use Rattle.wire.specs.Lists.{EachBelow}
 use Rattle.wire.specs.Bytes.{at24, total}
 use Rattle.wire.specs.Pieces.{table}
-use Rattle.wire.proofs.Bytes.{chunk_at}
+use Rattle.wire.proofs.Bytes.{chunk_get}
 use Rattle.wire.proofs.Lists.{all_at, each_zeros}
 use Rattle.wire.proofs.Pieces.{table_at, table_most, length_table, same_table, total_more}
 use Rattle.tables.specs.Tables.{first, word_at}
@@ -50,15 +50,6 @@ words_by_address tables n =
     (λ i l. let k : 3 * (first + i - first) ≡ 0 + 3 * i = omega arith in ap (at24 tables) k))
 
 -- ---- words by chunks
-
-pub chunk_get : (n k i : ℕ) (xs : List ℕ) (cs : List (List ℕ)) → cs ≡ first_chunks n k xs → i < k → (j p : ℕ) → j < n → n * i + j ≡ p
-    → get_or (get_or cs i []) j 0 ≡ get_or xs p 0
-chunk_get n k i xs cs e h j p l q =
-    ap (λ (c : List (List ℕ)). get_or (get_or c i []) j 0) e
-    ∙ ap (λ (c : List ℕ). get_or c j 0) (chunk_at n k i xs [] h)
-    ∙ get_or-take n (drop (n * i) xs) j 0 l
-    ∙ get_or-drop (n * i) xs j 0
-    ∙ ap (λ (m : ℕ). get_or xs m 0) q
 
 -- a chunk's words are those from its place on
 pub chunk_words : (n k i : ℕ) (xs : List ℕ) (cs : List (List ℕ)) → cs ≡ first_chunks n k xs → i < k → (m : ℕ) → 3 * m ≤ n

@@ -145,6 +145,25 @@ chunk_at n (suc k) (suc i) xs d h =
     let e : n + n * i ≡ n * suc i = grind arith in
     chunk_at n k i (drop n xs) d (omega (arith, h)) ∙ ap (take n) (drop-drop (n * i) n xs ∙ ap (λ (m : ℕ). drop m xs) e)
 
+-- byte j of chunk i of n bytes each is a byte of the list that was cut
+pub chunk_get : (n k i : ℕ) (xs : List ℕ) (cs : List (List ℕ)) → cs ≡ first_chunks n k xs → i < k → (j p : ℕ) → j < n → n * i + j ≡ p
+    → get_or (get_or cs i []) j 0 ≡ get_or xs p 0
+chunk_get n k i xs cs e h j p l q =
+    ap (λ (c : List (List ℕ)). get_or (get_or c i []) j 0) e
+    ∙ ap (λ (c : List ℕ). get_or c j 0) (chunk_at n k i xs [] h)
+    ∙ get_or-take n (drop (n * i) xs) j 0 l
+    ∙ get_or-drop (n * i) xs j 0
+    ∙ ap (λ (m : ℕ). get_or xs m 0) q
+
+-- the same where a part of the list, so long from `at` on, was cut
+pub chunk_byte : (n at long k i : ℕ) (xs : List ℕ) (cs : List (List ℕ)) → cs ≡ first_chunks n k (take long (drop at xs)) → i < k
+    → (j p : ℕ) → j < n → n * i + j < long → at + (n * i + j) ≡ p → get_or (get_or cs i []) j 0 ≡ get_or xs p 0
+chunk_byte n at long k i xs cs e h j p l b q =
+    chunk_get n k i (take long (drop at xs)) cs e h j (n * i + j) l refl
+    ∙ get_or-take long (drop at xs) (n * i + j) 0 b
+    ∙ get_or-drop at xs (n * i + j) 0
+    ∙ ap (λ (m : ℕ). get_or xs m 0) q
+
 -- the sum of what is left, by the next chunk
 pub total_chunk : (n k i : ℕ) (xs : List ℕ) (cs : List (List ℕ)) → cs ≡ first_chunks n k xs → i < k
     → total (drop (n * i) xs) ≡ total (get_or cs i []) + total (drop (n * (i + 1)) xs)

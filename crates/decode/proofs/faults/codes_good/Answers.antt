@@ -2,11 +2,11 @@
 use Rattle.std.specs.Prelude.{ℕ, ◌≡◌, ◌+◌, ◌*◌, ◌<◌, [], get_or}
 use Rattle.std.proofs.Common.{arith}
 use Rattle.std.proofs.Math.Path.{ap, ◌∙◌}
+use Rattle.wire.proofs.Bytes.{chunk_byte}
 use Rattle.wire.proofs.Pieces.{each_start, each_turn}
 use Rattle.rate_code.specs.Editions.{valid_of}
 use Rattle.packet.specs.Layout.{body_at}
 use Rattle.decode.specs.Read.{code_at, codes_good}
-use Rattle.decode.proofs.Chunks.{chunk_byte}
 use Rattle.decode.proofs.faults.codes_good.Goals as goal
 
 pub loop-code-init : goal.loop-code-init
@@ -20,8 +20,7 @@ loop-code-preserved c =
     let i = c.loop-code.code-index in
     let cs = c.as_chunks.result.0.now in
     let byte : (j m : ℕ) → j < 2 → body_at + (2 * i + j) ≡ m → get_or (get_or cs i []) j 0 ≡ get_or xs m 0 =
-    λ j m l e. ap (λ zs. get_or (get_or zs i []) j 0) c.as_chunks.ensures.front
-    ∙ chunk_byte 2 body_at (body_at + 2 * c.args.n) _ xs i j m (omega arith) l e (omega arith) in
+    λ j m l e. chunk_byte 2 body_at _ _ i xs cs c.as_chunks.ensures.front (omega arith) j m l (omega arith) e in
     let at = body_at + 2 * i in
     let read : c.from_be_bytes.result ≡ get_or (get_or cs i []) 0 0 * 256 + get_or (get_or cs i []) 1 0 = c.from_be_bytes.ensures in
     let code : c.from_be_bytes.result ≡ code_at xs i =

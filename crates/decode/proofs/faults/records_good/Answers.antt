@@ -3,11 +3,11 @@ use Rattle.std.specs.Prelude.{ℕ, ◌≡◌, ◌+◌, ◌*◌, ◌<◌, [], get
 use Rattle.std.proofs.Common.{arith}
 use Rattle.std.proofs.Math.Path.{ap, ◌∙◌}
 use Rattle.wire.specs.Bytes.{at32}
+use Rattle.wire.proofs.Bytes.{chunk_byte}
 use Rattle.wire.proofs.Pieces.{each_start, each_turn}
 use Rattle.sample_record.specs.Record.{record_good}
 use Rattle.packet.specs.Layout.{body_at}
 use Rattle.decode.specs.Read.{record_at, records_good}
-use Rattle.decode.proofs.Chunks.{chunk_byte}
 use Rattle.decode.proofs.faults.records_good.Goals as goal
 
 pub loop-bytes-init : goal.loop-bytes-init
@@ -21,8 +21,7 @@ loop-bytes-preserved c =
     let i = c.loop-bytes.bytes-index in
     let cs = c.as_chunks.result.0.now in
     let byte : (j m : ℕ) → j < 4 → body_at + (4 * i + j) ≡ m → get_or (get_or cs i []) j 0 ≡ get_or xs m 0 =
-    λ j m l e. ap (λ zs. get_or (get_or zs i []) j 0) c.as_chunks.ensures.front
-    ∙ chunk_byte 4 body_at (body_at + 4 * c.args.n) _ xs i j m (omega arith) l e (omega arith) in
+    λ j m l e. chunk_byte 4 body_at _ _ i xs cs c.as_chunks.ensures.front (omega arith) j m l (omega arith) e in
     let at = body_at + 4 * i in
     let b0 = byte 0 at (omega arith) (omega arith) in
     let b1 = byte 1 (at + 1) (omega arith) (omega arith) in

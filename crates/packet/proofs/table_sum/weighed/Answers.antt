@@ -1,6 +1,7 @@
 -- `weighed` has added, turn by turn, the first words of the columns.
 use Rattle.std.proofs.Common.{ℕ, ◌≡◌, ◌+◌, ◌*◌, ◌<◌, [], get_or, sym, ◌∙◌, arith}
-use Rattle.packet.proofs.WordSums.{no_words, first_more, chunk_get}
+use Rattle.wire.proofs.Bytes.{chunk_get}
+use Rattle.packet.proofs.WordSums.{no_words, first_more}
 use Rattle.packet.proofs.table_sum.weighed.Goals.{After-from}
 use Rattle.packet.proofs.table_sum.weighed.Goals as goal
 
