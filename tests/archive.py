@@ -22,16 +22,19 @@ def changed(data, at, value):
     return paper.with_sum(data[:at] + bytes([value]) + data[at + 1:])
 
 
-OLD = [rate(spread(124, paper.first_code), 0), beacon(spread(12, paper.first_code), 0), rate([0] * 124, 0), beacon([0xCFFF] * 12, 0)]
-NEW = [rate([0x8E84] * 124, 1), beacon([0x1002] * 12, 1), rate([0xCFFE] * 124, 2), beacon([0] * 12, 2)]
-# Counts that no first-edition code has as its least: one among others, the first, the last, all.
-ODD = [rate([0x1000] * 60 + [0x1001] + [0x1000] * 63, 1), beacon([0x8E85] + [0] * 11, 2), beacon([0] * 11 + [0x1001], 1), rate([0xCFFF] * 124, 2)]
+# The first beacon packet is of the time before Point 7: zeros in the place of the last three codes.
+OLD = [rate(spread(124, paper.first_code), 0), beacon(spread(12, paper.first_code), 0), rate([0] * 124, 0), beacon([0xCFFF] * 15, 0)]
+NEW = [rate([0x8E84] * 124, 1), beacon([0x1002] * 15, 1), rate([0xCFFE] * 124, 2), beacon([0] * 12 + [0x8E84, 0x01F4, 0x2000], 2)]
+# Counts that no first-edition code has as its least: one among others, the first, the twelfth beacon, each count of samples, all.
+ODD = [rate([0x1000] * 60 + [0x1001] + [0x1000] * 63, 1), beacon([0x8E85] + [0] * 14, 2), beacon([0] * 11 + [0x1001], 1),
+       *(beacon([0x1000] * k + [0x1001], 1) for k in (12, 13, 14)), rate([0xCFFF] * 124, 2)]
 SAMPLES = [paper.sample_packet(7, 60, p, [paper.pack(300, 1000, 0, 0, 0, 0, 60, 1)] * 64) for p in (0, 2, 10)]
 # By 11: a listing packet, other bytes. By 12: sums that are wrong. By 13: a mark, a code, a byte without use, an edition's
 # wrong code.
 WRONG = [paper.listing_packet(7, 60, 3, bytes(paper.TABLE_BYTES)), bytes(272), bytes(range(256)) + bytes(16),
          OLD[0][:271] + bytes([OLD[0][271] ^ 1]), SAMPLES[0][:271] + bytes([SAMPLES[0][271] ^ 128]),
-         changed(OLD[0], 269, 3), rate([0xD000] * 124, 2), changed(OLD[1], 270, 1), beacon([0x1000] * 12, 0), changed(SAMPLES[0], 269, 1)]
+         changed(OLD[0], 269, 3), rate([0xD000] * 124, 2), changed(OLD[1], 270, 1), changed(OLD[3], 41, 1), beacon([0x1000] * 15, 0),
+         *(beacon([0] * k + [0x17FF], 0) for k in (12, 13, 14)), beacon([0] * 14 + [0xD000], 1), changed(SAMPLES[0], 269, 1)]
 ARCHIVE = OLD + SAMPLES + NEW + WRONG + ODD + OLD[::-1]
 
 

@@ -100,6 +100,8 @@ fixed() {
     compare replay 63 500 --wrong-tables
     compare minute 64 500 --minute --wrong-tables
     compare replay 65 0 --full 20
+    compare replay 92 0 --busy
+    compare replay 93 0 --busy
     compare replay 66 200 --frames 300
     compare minute 67 0 --minute --frames 65600
     archive 68 100000

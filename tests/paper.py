@@ -12,6 +12,8 @@ TABLE_BYTES = 62985
 SLOTS = 704
 BOXES = 116
 BEACONS = 12
+# The beacon packet has three more rates (document 02, Point 7).
+BEACON_RATES = BEACONS + 3
 
 
 def put_numbers(numbers, size):
@@ -167,6 +169,22 @@ def place_samples(samples, limhi, used=0, replaced=0, slots=()):
     later = [record for record, priority in samples[free:] if priority == 1][:max(0, limhi - replaced)]
     slots[replaced:replaced + len(later)] = later
     return slots, used + len(first), replaced + len(later)
+
+
+class SampleCounts(NamedTuple):
+    """"three more counts: eligible, replaced and dropped events" (document 02, Point 7)"""
+    eligible: int
+    replaced: int
+    dropped: int
+
+
+def sample_counts_of(samples, limhi):
+    """The three counts of an interval from (record, priority) of each eligible event in order; none is the rest of another."""
+    late = [priority for _, priority in samples[SLOTS:]]
+    # "replaced counts the priority 1 eligible events after the 704th eligible one, or is LIMHI if less, and dropped counts
+    # every other one after the 704th"
+    passed_over = [priority for priority in late if priority == 1][limhi:]
+    return SampleCounts(len(samples), min(late.count(1), limhi), late.count(0) + len(passed_over))
 
 
 # ---- "Commands and loads"
@@ -357,8 +375,9 @@ def sample_packet(frame, time, p, records):
     return packet(FIRST_SAMPLE + p, frame, time, [(11, put_numbers(records, 4)), (269, bytes([p]))])
 
 
-def beacon_packet(frame, time, beacons):
-    return packet(BEACON, frame, time, [(11, codes(beacons)), (269, bytes([MARK]))])
+def beacon_packet(frame, time, rates):
+    # "the beacon packet carries their codes at bytes 35-40, rates like the others under every mark"
+    return packet(BEACON, frame, time, [(11, codes(rates)), (269, bytes([MARK]))])
 
 
 # ---- the ground reader
@@ -377,7 +396,7 @@ class Packet:
     p: int = 0
     settings: Settings = Settings(limhi=0)
     rates: list = field(default_factory=lambda: [0] * (8 + BOXES))
-    beacons: list = field(default_factory=lambda: [0] * BEACONS)
+    beacon_rates: list = field(default_factory=lambda: [0] * BEACON_RATES)
     records: bytes = b""
     mark: int = 0
 
@@ -414,8 +433,8 @@ def read_sample(data, answer):
 def read_beacon(data, answer):
     answer.kind = "beacon"
     answer.mark = data[269]
-    answer.beacons = rates_of(answer.mark, data[11:35])
-    return None not in answer.beacons and not any(data[35:267]) and data[270] == 0
+    answer.beacon_rates = rates_of(answer.mark, data[11:41])
+    return None not in answer.beacon_rates and not any(data[41:267]) and data[270] == 0
 
 
 def read_packet(data):
@@ -452,7 +471,7 @@ def convert(data, wanted):
     # "A sample packet, or one already in the edition wanted, gets 13."
     if p.kind == "sample" or (p.mark == FIRST) == (wanted == FIRST):
         return 13
-    codes = [CODE_OF[wanted].get(n) for n in (p.rates if p.kind == "rate" else p.beacons)]
+    codes = [CODE_OF[wanted].get(n) for n in (p.rates if p.kind == "rate" else p.beacon_rates)]
     # "17 when no first-edition code has some rate's least count"
     if None in codes:
         return 17
@@ -536,6 +555,7 @@ class State:
     entries: tuple = (EMPTY,) * MAX_COMMANDS
     next: int = 0
     reach: int = 0
+    eligible: int = 0
 
 
 def state_bytes(s):
@@ -544,7 +564,7 @@ def state_bytes(s):
     settings = s.settings.limhi.to_bytes(2, "big") + bytes([flags_of(s.settings), s.settings.hvstep])
     entries = b"".join(bytes([kind]) + value.to_bytes(4, "big") + bytes([y]) for kind, value, y in s.entries)
     return s.frame.to_bytes(2, "big") + put_numbers(words, 4) + settings + put_numbers([s.accepted, s.waits], 4) + entries \
-        + put_numbers([s.next, s.reach], 4)
+        + put_numbers([s.next, s.reach, s.eligible], 4)
 
 
 STATE_BYTES = len(state_bytes(State()))
@@ -576,7 +596,7 @@ def given(entry, reach):
 
 def within_limits(s):
     # "State limits", in the paper's order; and no "waiting command that no line could give"
-    counts = [*s.boxes, *s.beacons, s.used, s.replaced]
+    counts = [*s.boxes, *s.beacons, s.eligible, s.used, s.replaced]
     waiting = s.entries[:s.waits]
     return s.taken <= 1000000 and max(counts) <= s.taken and s.used <= SLOTS and s.readings <= 60 \
         and max(s.totals) <= 65535 * s.readings and s.accepted <= MAX_COMMANDS and s.waits <= s.accepted \
@@ -592,10 +612,11 @@ def slot_right(w):
 # ---- the six calls
 
 class Closed(NamedTuple):
-    """The ended frame; "the taken count, 116 boxes, 12 beacons and filled slots"; the packets."""
+    """The ended frame; "the taken count, 116 boxes, 12 beacons and filled slots", and Point 7's counts; the packets."""
     frame: int
     taken: int
     filled: int
+    sample_counts: SampleCounts
     boxes: list
     beacons: list
     packets: list
@@ -625,11 +646,25 @@ class Processor:
     def outcomes(self):
         return [sort_event(self.settings, self.tables, e) for e in self.events]
 
+    def samples(self):
+        """(record, priority) of each eligible event."""
+        return [(record_of(e, s), s.priority) for e, s in zip(self.events, self.outcomes()) if eligible(self.settings, s)]
+
     def placed(self):
         """The slots at present, how many are used and how many were replaced."""
         b = self.begun
-        samples = [(record_of(e, s), s.priority) for e, s in zip(self.events, self.outcomes()) if eligible(self.settings, s)]
-        return place_samples(samples, self.settings.limhi, b.used, b.replaced, self.slots)
+        return place_samples(self.samples(), self.settings.limhi, b.used, b.replaced, self.slots)
+
+    def sample_counts(self, filled):
+        """Point 7's counts at a close that finds so many slots filled: where all began with nothing, from the events; else, as
+        what was handed in has no events, dropped by "Eligible = filled + replaced + dropped", and 0 where that is less."""
+        s, b = self.state(), self.begun
+        left = max(0, s.eligible - filled - s.replaced)
+        if b.eligible or b.used or b.replaced or any(self.slots):
+            return SampleCounts(s.eligible, s.replaced, left)
+        sample_counts = sample_counts_of(self.samples(), self.settings.limhi)
+        assert sample_counts == (s.eligible, s.replaced, left)
+        return sample_counts
 
     def state(self):
         """The state at present: what it was and what the calls since then add."""
@@ -643,7 +678,7 @@ class Processor:
         totals = tuple(n + sum(r[k] for r in self.readings) for k, n in enumerate(b.totals))
         _, used, replaced = self.placed()
         return State(self.frame, b.taken + len(self.events), boxes, beacons, used, replaced, b.readings + len(self.readings), totals,
-                     self.settings, self.accepted, self.waits, tuple(self.entries), self.next, self.reach)
+                     self.settings, self.accepted, self.waits, tuple(self.entries), self.next, self.reach, b.eligible + len(self.samples()))
 
     def slots_now(self):
         return self.slots if self.over else self.placed()[0]
@@ -754,8 +789,9 @@ class Processor:
         if self.over or not all(map(slot_right, slots)):
             return 1
         # "Packets come from the ending interval's settings and tables; then waiting commands run in order"
-        s = self.state()
-        answer = Closed(s.frame, s.taken, sum(w != 0 for w in slots), s.boxes, s.beacons, self.packets(time, s, slots))
+        s, filled = self.state(), sum(w != 0 for w in slots)
+        sample_counts = self.sample_counts(filled)
+        answer = Closed(s.frame, s.taken, filled, sample_counts, s.boxes, s.beacons, self.packets(time, s, slots, sample_counts))
         for entry in self.waiting():
             self.run(*entry)
         # "then counts and slots become zero and the frame number rises by one modulo 65,536"
@@ -768,11 +804,11 @@ class Processor:
             return 1
         return listing_packet(self.frame, time, i, self.tables) if i < LISTING_PACKETS else 14
 
-    def packets(self, time, s, slots):
+    def packets(self, time, s, slots, sample_counts):
         # "rate (application number 605), samples 606 to 616, beacon 624"
         rate = rate_packet(s.frame, time, s.totals, s.boxes, s.settings, table_sum(self.tables))
         samples = [sample_packet(s.frame, time, p, slots[64 * p:64 * p + 64]) for p in range(SAMPLE_PACKETS)]
-        return [rate, *samples, beacon_packet(s.frame, time, s.beacons)]
+        return [rate, *samples, beacon_packet(s.frame, time, [*s.beacons, *sample_counts])]
 
     def run(self, kind, value, y):
         if kind == LOAD:

@@ -115,14 +115,16 @@ def shown(**fields):
     return "state " + state_bytes(State(**fields)).hex()
 
 
-def closed(frame, taken, filled, boxes=(), beacons=()):
-    """The first three lines of a close; boxes and beacons as (number, count), all others 0."""
+def closed(frame, taken, filled, boxes=(), beacons=(), sample_counts=None):
+    """The first three lines of a close; boxes and beacons as (number, count), all others 0. The sample_counts are eligible, replaced
+    and dropped; where they are not said, every eligible event is in a slot."""
+    eligible, replaced, dropped = sample_counts or (filled, 0, 0)
     b, n = [0] * 116, [0] * 12
     for at, count in boxes:
         b[at - 1] = count
     for at, count in beacons:
         n[at - 1] = count
-    return [f"close 0 {frame} {taken} {filled}",
+    return [f"close 0 {frame} {taken} {filled} {eligible} {replaced} {dropped}",
             "boxes " + " ".join(map(str, b)), "beacons " + " ".join(map(str, n))]
 
 
@@ -250,7 +252,7 @@ def samples():
     for limhi in (0, 1, 500, 704):
         for extra in (0, 1, 2, 400, 1600):
             stream = line(b"limhi %x" % limhi) + close()
-            slots, h, by_gain = [], 0, [0, 0]
+            slots, h, dropped, by_gain = [], 0, 0, [0, 0]
             for k in range(SLOTS + extra):
                 # Every third event has gain 1 and so priority 0. No two records are alike.
                 t, channel, gain = k % 512, 1 + k // 2, int(k % 3 == 0)
@@ -262,6 +264,8 @@ def samples():
                 elif not gain and h < limhi:
                     slots[h] = w
                     h += 1
+                else:
+                    dropped += 1
             # The close after these has no event: its slots are empty.
             output = run("replay", stream + close() + close(), SORTED)
             outs = [bytes.fromhex(x[4:]) for x in output.splitlines() if x.startswith("out ")]
@@ -274,7 +278,26 @@ def samples():
             boxes = [(1, low), (2, high), (3, high), (4, low), (60, high), (61, low)]
             check(f"replay: counts, limhi {limhi}, {extra} more", without_packets(output),
                   [accepted(0, 0, b"limhi %x" % limhi)] + closed(0, 0, 0) + ["event 0"] * (SLOTS + extra)
-                  + closed(1, SLOTS + extra, SLOTS, boxes) + closed(2, 0, 0))
+                  + closed(1, SLOTS + extra, SLOTS, boxes, sample_counts=(SLOTS + extra, h, dropped)) + closed(2, 0, 0))
+
+
+def sample_counts():
+    """What became of the samples (document 02, Point 7), with junk 0 and then with junk 1 and LIMHI 3."""
+    # Gain 0 is box 7 with priority 1; by Klo gain 1 has u −1: box 6 with priority 0.
+    words = tables([(CELL, (128 + 7) << 16), (KLO, 65537)])
+    high, low = event(), event(high=4095)
+    # 704 in the slots. Of 8 after them 5 have priority 1: 3 replace, 2 and the 3 of priority 0 are dropped.
+    events = high * 400 + low * 304 + event(flags=0) + low * 2 + high * 4 + low + high
+    boxes = [(2, 405), (3, 405), (4, 307), (5, 1), (6, 307), (7, 405)]
+    output = run("replay", line(b"junk 1") + line(b"limhi 3") + events + close() + events + close() + close(), words)
+    check("replay: samples replaced and dropped", without_packets(output),
+          [accepted(0, 0, b"junk 1"), accepted(0, 1, b"limhi 3")] + ["event 0"] * 713 + closed(0, 713, 0, boxes)
+          + ["event 0"] * 713 + closed(1, 713, 704, boxes, sample_counts=(712, 3, 5)) + closed(2, 0, 0))
+    outs = [bytes.fromhex(x[4:]) for x in output.splitlines() if x.startswith("out ")]
+    # 712 is 2c8 hex.
+    codes = "".join(outs[k][35:42].hex() + "\n" for k in (12, 25, 38))
+    check("replay: their codes in the beacon packets", codes, ["00" * 7, "02c80003000500", "00" * 7])
+    check("replay: their rates read back", run("replay", packet(outs[25])), ["packet 0", "beacon 1 60 1 1", "rates" + " 0" * 12 + " 712 3 5"])
 
 
 # ---- readings and commands
@@ -396,7 +419,7 @@ def packets():
     slot = "%08x" % record(0, 0, 0, 60, 1)
     for p in range(11):
         want += ["packet 0", f"sample 1 16909060 1 {p}", "records " + (slot if p == 0 else "00000000") + "00" * 252]
-    want += ["packet 0", "beacon 1 16909060 1 1", "rates" + " 0" * 12]
+    want += ["packet 0", "beacon 1 16909060 1 1", "rates" + " 0" * 12 + " 1 0 0"]
     check("replay: packets read back", run("replay", b"".join(map(packet, outs))), want)
     rate = bytearray(outs[0])
     rate[271] ^= 1
@@ -417,8 +440,8 @@ EDGE_CODES = {0x0FFF: (4095, 4095), 0x1000: (None, 4096), 0x17FF: (None, 6143), 
 
 
 def beacon(code, mark):
-    """A beacon packet of time 60 and frame 0 with twelve rates of one code: 624 is 270 hex."""
-    head = bytes.fromhex("0a70c00001090000003c00") + code.to_bytes(2, "big") * 12
+    """A beacon packet of time 60 and frame 0 with fifteen rates of one code: 624 is 270 hex."""
+    head = bytes.fromhex("0a70c00001090000003c00") + code.to_bytes(2, "big") * 15
     return changed(head.ljust(272, b"\0"), 269, mark)
 
 
@@ -428,16 +451,22 @@ def editions():
     want = []
     for code, mark in cases:
         least = EDGE_CODES[code][min(mark, 1)] if mark < 3 else None
-        want += ["packet 13"] if least is None else ["packet 0", f"beacon 0 60 0 {mark}", "rates" + f" {least}" * 12]
+        want += ["packet 13"] if least is None else ["packet 0", f"beacon 0 60 0 {mark}", "rates" + f" {least}" * 15]
     check("replay: codes under each mark", run("replay", b"".join(packet(beacon(*c)) for c in cases)), want)
     output = run("replay", event() * 4099 + close(), SORTED)
     outs = [bytes.fromhex(x[4:]) for x in output.splitlines() if x.startswith("out ")]
     # 4,099 in boxes 2, 3 and 60: 1003 hex.
     boxes = bytes.fromhex("0000 1003 1003").ljust(2 * 59, b"\0") + bytes.fromhex("1003")
     check("replay: the second edition aboard", (outs[0][27:27 + 2 * 60].hex() + f" {outs[0][269]} {outs[12][269]}\n"), [boxes.hex() + " 1 1"])
-    # In the first edition these bytes are no codes: 1003 hex has s 1 and a quotient below 2,048.
-    check("replay: the same under mark 0", run("replay", packet(changed(outs[0], 269, 0)) + packet(changed(outs[12], 269, 0))),
-          ["packet 13", "packet 0", "beacon 0 60 0 0", "rates" + " 0" * 12])
+    # 4,099 are eligible, of priority 1: 500 replace, 4,099 - 704 - 500 = 2,895 are dropped.
+    check("replay: the second edition in the beacon packet", outs[12][11:42].hex() + "\n", ["00" * 24 + "1003" + "01f4" + "0b4f" + "00"])
+    # In the first edition 1003 hex is no code: it has s 1 and a quotient below 2,048.
+    check("replay: the same under mark 0", run("replay", packet(changed(outs[0], 269, 0)) + packet(changed(outs[12], 269, 0))), ["packet 13"] * 2)
+    # Byte 41 of a beacon packet has no use.
+    cases = [(beacon(0x0FFF, mark), at, 1) for mark in (0, 1, 2) for at in (35, 40, 41, 266)]
+    cases += [(beacon(0x1800, 0), 39, 0x17), (beacon(0x1800, 1), 39, 0xD0)]
+    got = [x for x in run("replay", b"".join(packet(changed(*c)) for c in cases)).splitlines() if x.startswith("packet")]
+    check("replay: bytes 35 to 41 of a beacon packet", "".join(x + "\n" for x in got), (["packet 0"] * 2 + ["packet 13"] * 2) * 3 + ["packet 13"] * 2)
 
 
 def to_second(body):
@@ -463,9 +492,10 @@ def conversions():
     check("replay: counts that the first edition has not", run("replay", b"".join(to_first(beacon(c, m)) for c in odd for m in (1, 2))), ["first 17"] * 6)
     # A beacon packet of one odd code among even ones, and a fault before it.
     one = changed(changed(beacon(0x1000, 1), 33, 0x10), 34, 1)
+    last = changed(beacon(0x1000, 1), 40, 1)
     good, sample = beacon(0x1800, 0), with_sum(bytes.fromhex("0a5ec00001090000003c00").ljust(272, b"\0"))
-    cases = [(one, 13, 17), (changed(one, 270, 1), 13, 13), (sample, 13, 13), (good, 0, 13), (beacon(0x1000, 1), 13, 0),
-             (beacon(0x1000, 2), 13, 0), (beacon(0x1000, 3), 13, 13), (beacon(0x1000, 0), 13, 13), (beacon(0xD000, 2), 13, 13),
+    cases = [(one, 13, 17), (last, 13, 17), (changed(one, 270, 1), 13, 13), (changed(last, 41, 1), 13, 13), (sample, 13, 13), (good, 0, 13),
+             (beacon(0x1000, 1), 13, 0), (beacon(0x1000, 2), 13, 0), (beacon(0x1000, 3), 13, 13), (beacon(0x1000, 0), 13, 13), (beacon(0xD000, 2), 13, 13),
              (good[:-1], 11, 11), (b"", 11, 11), (changed(good, 1, 0x52), 11, 11), (good[:-1] + bytes([good[-1] ^ 1]), 12, 12)]
     got = [x for x in run("replay", b"".join(to_second(p) + to_first(p) for p, _, _ in cases)).splitlines() if not x.startswith("out ")]
     check("replay: what is not converted", "".join(x + "\n" for x in got), [x for _, s, f in cases for x in (f"second {s}", f"first {f}")])
@@ -564,9 +594,11 @@ def entries(*first):
 
 def states():
     """What was handed in is shown again; a call changes it as it changes any state."""
-    check("replay: a fresh state", run("replay", SHOW), ["state " + "0" * 1124 + "01f4" + "0" * 420])
+    check("replay: a fresh state", run("replay", SHOW), ["state " + "0" * 1124 + "01f4" + "0" * 428])
+    check("replay: eligible comes last", run("replay", handed(eligible=0x01020304) + SHOW)[-17:], ["0000000001020304"])
     odd = dict(frame=0x1234, taken=9, boxes=tuple(range(10)) + (0,) * 106, beacons=(9,) * 12, used=7, replaced=8, readings=2, totals=(131070,) * 8,
-               settings=Settings(704, 1, 0, 1, 0, 255), accepted=5, waits=2, entries=entries((5, 255, 0), (255, 0x7000, 2), (4, 65535, 0)), next=3, reach=4)
+               settings=Settings(704, 1, 0, 1, 0, 255), accepted=5, waits=2, entries=entries((5, 255, 0), (255, 0x7000, 2), (4, 65535, 0)), next=3, reach=4,
+               eligible=6)
     check("replay: every field", run("replay", handed(**odd) + SHOW), ["state", shown(**odd)])
     beyond = {**odd, "taken": 2**32 - 1, "used": 2**32 - 1, "accepted": 2**32 - 1, "waits": 2**32 - 1, "next": 2**32 - 1, "reach": 0}
     calls = event(512) + reading(*[1] * 8) + line(b"\t") + package(b"a") + close() + listing(250)
@@ -599,7 +631,7 @@ LIMITS = [
     (dict(taken=5, boxes=(5,) * 116), 0), (dict(taken=5, boxes=(0,) * 115 + (6,)), 1),
     (dict(taken=5, beacons=(5,) * 12), 0), (dict(taken=5, beacons=(0,) * 11 + (6,)), 1),
     (dict(taken=5, used=5), 0), (dict(taken=5, used=6), 1), (dict(taken=999, used=704), 0), (dict(taken=999, used=705), 1),
-    (dict(taken=5, replaced=5), 0), (dict(taken=5, replaced=6), 1),
+    (dict(taken=5, replaced=5), 0), (dict(taken=5, replaced=6), 1), (dict(taken=5, eligible=5), 0), (dict(taken=5, eligible=6), 1),
     (dict(readings=60), 0), (dict(readings=61), 1), (dict(readings=1, totals=(65535,) * 8), 0), (dict(readings=1, totals=(0,) * 7 + (65536,)), 1),
     (dict(accepted=32), 0), (dict(accepted=33), 1), (dict(accepted=32, waits=32), 0), (dict(accepted=31, waits=32), 1),
     (dict(next=9, reach=9), 0), (dict(next=10, reach=9), 1), (dict(reach=62985), 0), (dict(reach=62986), 1),
@@ -621,10 +653,27 @@ def handed_slots():
     """A close counts the slots that are not zero, and is refused if one is of no box from 6 to 116."""
     right = [record(1, 1, 0, 6, 0), record(511, 2047, 1, 116, 1)]
     output = run("replay", slots(*right) + close() + close())
-    check("replay: two slots", without_packets(output), ["slots"] + closed(0, 0, 2) + closed(1, 0, 0))
+    check("replay: two slots", without_packets(output), ["slots"] + closed(0, 0, 2, sample_counts=(0, 0, 0)) + closed(1, 0, 0))
     check("replay: their packet", output.splitlines()[5][26:42] + "\n", ["".join(f"{w:08x}" for w in right)])
     for wrong in (1, record(1, 1, 0, 5, 1), record(1, 1, 0, 117, 0), 0xFFFFFFFF):
         check(f"replay: slot {wrong:08x}", run("replay", slots(0, wrong) + event() + close()), ["slots", "event 0", "close 1"])
+
+
+def handed_numbers():
+    """Numbers that are handed in have no events: dropped is eligible less filled less replaced, and 0 where that is less than 0."""
+    for eligible, filled, replaced, dropped in ((5, 7, 0, 0), (5, 3, 1, 1), (5, 3, 2, 0), (5, 3, 3, 0), (9, 0, 4, 5), (0, 704, 0, 0)):
+        stream = handed(taken=9, eligible=eligible, replaced=replaced) + slots(*[record(1, 1, 0, 60, 1)] * filled)
+        check(f"replay: {eligible} eligible, {filled} filled, {replaced} replaced", without_packets(run("replay", stream + close() + close())),
+              ["state", "slots"] + closed(0, 9, filled, sample_counts=(eligible, replaced, dropped)) + closed(1, 0, 0))
+    # 703 filled, 499 replaced and 98 dropped; then one event fills the last slot, one replaces, two are dropped.
+    begun = dict(taken=1300, used=703, replaced=499, eligible=1300)
+    stream = handed(**begun) + slots(*[record(1, 1, 0, 60, 1)] * 703) + event() * 2 + event(high=4095) + event() + SHOW + close()
+    counts = [(1, 1), (2, 3), (3, 3), (4, 1), (60, 3), (61, 1)]
+    boxes = [0] * 116
+    for at, count in counts:
+        boxes[at - 1] = count
+    check("replay: events after a state", without_packets(run("replay", stream, SORTED)), ["state", "slots"] + ["event 0"] * 4
+          + [shown(taken=1304, used=704, replaced=500, eligible=1304, boxes=tuple(boxes))] + closed(0, 1304, 704, counts, sample_counts=(1304, 500, 100)))
 
 
 # ---- many closes, and input in pieces
@@ -744,7 +793,7 @@ def interrupted():
             check(f"{program}: interrupted, no tables.bin", printed + line, ["refused 1"])
 
 
-for case in (start_and_end, ranges, million, columns, samples, readings, commands, zero_bytes, long_bodies, loads, asks, bad_bytes, packets, editions, conversions, listings, gathers, states, no_states, limits, handed_slots, example, session, frames, pieces,
+for case in (start_and_end, ranges, million, columns, samples, sample_counts, readings, commands, zero_bytes, long_bodies, loads, asks, bad_bytes, packets, editions, conversions, listings, gathers, states, no_states, limits, handed_slots, handed_numbers, example, session, frames, pieces,
              pieces_of_minute, held_open, failed_reads, failed_writes, interrupted):
     case()
 finish()

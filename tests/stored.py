@@ -5,7 +5,7 @@ those of limit_cases and ground_cases come from the second implementation (compa
     python3 tests/stored.py --write     writes them anew
 
 No program runs here. The rules are those of paper.py, which is held to "Numbers at the edges" first. The inputs:
-- replay: its stored tables.bin and stdin, which `reference/target/release/streams 964 400 FOLDER --states` writes;
+- replay: its stored tables.bin and stdin, which `reference/target/release/streams 5176 400 FOLDER --states` writes;
 - minute: the example of document 01, which is its stored stdin;
 - command_cases: command_inputs.py, which its stored stdin is compared with too;
 - convert: archive.py, which its stored stdin is compared with too;
@@ -72,7 +72,7 @@ def event_of(body):
 def close_lines(c):
     if c == 1:
         return ["close 1"]
-    head = [joined("close", 0, c.frame, c.taken, c.filled), joined("boxes", *c.boxes), joined("beacons", *c.beacons)]
+    head = [joined("close", 0, c.frame, c.taken, c.filled, *c.sample_counts), joined("boxes", *c.boxes), joined("beacons", *c.beacons)]
     return head + ["out " + p.hex() for p in c.packets]
 
 
@@ -87,7 +87,7 @@ def packet_lines(p):
         settings = joined("settings", s.hvstep, s.hv, s.eonly, s.toferror, s.junk, s.limhi, p.sum)
         return lines + [joined("rates", *p.rates), settings]
     if p.kind == "beacon":
-        return lines + [joined("rates", *p.beacons)]
+        return lines + [joined("rates", *p.beacon_rates)]
     return lines + ["records " + p.records.hex()]
 
 
@@ -251,8 +251,8 @@ SAMPLE_DAMAGE = [
     ("summed", 14, 234), ("summed", 14, 12), ("summed", 14, 232), ("summed", 42, 1), ("changed", 14, 0),
 ]
 BEACON_DAMAGE = [
-    ("summed", 1, 113), ("summed", 35, 1), ("summed", 266, 1), ("summed", 269, 0), ("summed", 269, 2), ("summed", 269, 3), ("summed", 270, 1),
-    ("summed", 11, 255), ("changed", 35, 1),
+    ("summed", 1, 113), ("summed", 41, 1), ("summed", 266, 1), ("summed", 269, 0), ("summed", 269, 2), ("summed", 269, 3), ("summed", 270, 1),
+    ("summed", 11, 255), ("summed", 35, 208), ("summed", 40, 1), ("changed", 35, 1),
 ]
 
 
@@ -291,14 +291,14 @@ def read_lines(data, damage):
     p = paper.read_packet(data)
     s = p.settings
     lines = [data.hex(), row(p.number, KINDS[p.kind], p.application, p.sequence, p.time, p.frame, p.sum, p.p, p.mark),
-             row(s.limhi, s.eonly, s.toferror, s.junk, s.hv, s.hvstep), row(*p.rates), row(*p.beacons), p.records.hex()]
+             row(s.limhi, s.eonly, s.toferror, s.junk, s.hv, s.hvstep), row(*p.rates), row(*p.beacon_rates), p.records.hex()]
     return lines + [str(paper.read_packet(damaged(data, *d)).number) for d in damage]
 
 
 def packet_cases():
     rate = paper.rate_packet(0, 305419896, TOTALS, generated_counts(116, 1), SETTINGS, TABLE_SUM)
     sample = paper.sample_packet(40000, 4294967295, 10, generated_records(64, 7))
-    beacon = paper.beacon_packet(65535, 60, generated_counts(12, 99))
+    beacon = paper.beacon_packet(65535, 60, generated_counts(12, 99) + [1000000, 704, 998592])
     return read_lines(rate, RATE_DAMAGE) + read_lines(sample, SAMPLE_DAMAGE) + read_lines(beacon, BEACON_DAMAGE)
 
 

@@ -213,6 +213,34 @@ mod tests {
     }
 
     #[test]
+    fn the_counts_of_samples_are_converted_too() {
+        // 4,096, 4,095 and 999,936 in bytes 35 to 40, all other rates 0.
+        let of_counts = |mark: u8, codes: [u8; 6]| {
+            let mut packet = of_code(BEACON, mark, 0);
+            packet[35..41].copy_from_slice(&codes);
+            changed(packet, MARK_AT, mark)
+        };
+        let old = of_counts(0, [0x18, 0x00, 0x0F, 0xFF, 0x8F, 0x42]);
+        let new = of_counts(2, [0x10, 0x00, 0x0F, 0xFF, 0x8E, 0x84]);
+        assert_eq!((there(&old), back(&new)), (Ok(new), Ok(old)));
+        for (at, value, number) in [
+            (36, 1, NO_FIRST_CODE),
+            (38, 0xFF, DONE),
+            (40, 0x85, NO_FIRST_CODE),
+            (35, 0xD0, BODY),
+            (37, 0xD0, BODY),
+            (39, 0xD0, BODY),
+            (41, 1, BODY),
+            (266, 1, BODY),
+        ] {
+            let answer = back(&changed(new, at, value)).err().unwrap_or(DONE);
+            assert_eq!(answer, number, "byte {at}");
+        }
+        assert_eq!(there(&changed(old, 35, 0x17)), Err(BODY));
+        assert_eq!(there(&changed(old, 41, 1)), Err(BODY));
+    }
+
+    #[test]
     fn there_and_back_byte_for_byte() {
         let random = &mut Random::new(6);
         for i in 0..2_000 {

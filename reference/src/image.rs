@@ -6,14 +6,15 @@ use crate::processor::{Processor, MOST_COMMANDS};
 use crate::samples::Samples;
 use crate::sorting::Counts;
 
-pub const STATE_BYTES: usize = 774;
+pub const STATE_BYTES: usize = 778;
 
 pub type Image = [u8; STATE_BYTES];
 
 const LOAD_KIND: u8 = 255;
 
 /// frame 2; taken 4; boxes 116 × 4; beacons 12 × 4; used 4; replaced 4; readings 4; totals 8 × 4;
-/// LIMHI 2; flags 1; hvstep 1; accepted 4; how many wait 4; 32 × 6; next address 4; reach 4.
+/// LIMHI 2; flags 1; hvstep 1; accepted 4; how many wait 4; 32 × 6; next address 4; reach 4;
+/// eligible 4.
 pub fn image(p: &Processor) -> Vec<u8> {
     let mut bytes = p.frame.to_be_bytes().to_vec();
     let mut words = vec![p.taken];
@@ -28,8 +29,8 @@ pub fn image(p: &Processor) -> Vec<u8> {
         bytes.extend((count as u32).to_be_bytes());
     }
     bytes.extend(p.waiting.iter().flat_map(entry));
-    for address in [p.addresses.next, p.addresses.reach] {
-        bytes.extend((address as u32).to_be_bytes());
+    for number in [p.addresses.next, p.addresses.reach, p.samples.eligible] {
+        bytes.extend((number as u32).to_be_bytes());
     }
     bytes
 }
@@ -71,12 +72,12 @@ pub fn state(bytes: &Image) -> Option<Processor> {
     for one in &mut waiting {
         *one = read_entry(part(&mut rest))?;
     }
-    let [next, reach] = [(); 2].map(|()| four(&mut rest) as usize);
+    let [next, reach, eligible] = [(); 3].map(|()| four(&mut rest) as usize);
     Some(Processor {
         frame,
         taken,
         counts,
-        samples: Samples { used, replaced },
+        samples: Samples { eligible, used, replaced },
         readings,
         totals,
         settings: Settings { limhi, eonly, toferror, junk, hv, hvstep },
@@ -116,7 +117,7 @@ mod tests {
     use crate::generate::{states, Random};
 
     fn read(bytes: &[u8]) -> Option<Processor> {
-        state(bytes.try_into().expect("774 bytes"))
+        state(bytes.try_into().expect("778 bytes"))
     }
 
     #[test]
@@ -133,7 +134,7 @@ mod tests {
         let mut p = Processor { frame: 0x0102, taken: 0x03040506, ..Processor::FRESH };
         p.counts.boxes[116] = 7;
         p.counts.beacons[1] = 8;
-        p.samples = Samples { used: 9, replaced: 10 };
+        p.samples = Samples { used: 9, replaced: 10, eligible: 0x1920_2122 };
         p.readings = 11;
         p.totals[7] = 12;
         p.settings = Settings { hv: true, toferror: true, hvstep: 13, ..Settings::FRESH };
@@ -142,7 +143,7 @@ mod tests {
         p.waiting[31] = Waiting::Load(0x1213_1415, 16);
         p.addresses = Addresses { next: 17, reach: 18 };
         let bytes = image(&p);
-        assert_eq!(bytes.len(), 774);
+        assert_eq!(bytes.len(), 778);
         assert_eq!(bytes[..6], [1, 2, 3, 4, 5, 6]);
         assert_eq!([bytes[469], bytes[473], bytes[521], bytes[525]], [7, 8, 9, 10]);
         assert_eq!([bytes[529], bytes[561]], [11, 12]);
@@ -152,6 +153,7 @@ mod tests {
         assert_eq!(bytes[580..586], [0; 6]); // an empty entry
         assert_eq!(bytes[760..766], [255, 0x12, 0x13, 0x14, 0x15, 16]);
         assert_eq!([bytes[769], bytes[773]], [17, 18]);
+        assert_eq!(bytes[774..], [0x19, 0x20, 0x21, 0x22]);
     }
 
     #[test]

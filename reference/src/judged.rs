@@ -5,13 +5,15 @@ use crate::causes::{Number, BUFFER};
 use crate::commands::{Keyword, Waiting};
 use crate::loads::{Load, STAGING_BYTES};
 use crate::processor::*;
+use crate::sample_counts::EligibleEvents;
 use crate::samples::SLOTS;
 use crate::sorting::Event;
 
 /// "State limits" of document 01.
 pub fn within_limits(p: &Processor) -> bool {
     let counts = at_most(p.taken, &p.counts.boxes) & at_most(p.taken, &p.counts.beacons);
-    let samples = p.samples.used <= SLOTS && p.samples.used.max(p.samples.replaced) <= p.taken as usize;
+    let most = p.samples.eligible.max(p.samples.used).max(p.samples.replaced);
+    let samples = p.samples.used <= SLOTS && most <= p.taken as usize;
     let totals = at_most(65_535u32.wrapping_mul(p.readings), &p.totals);
     let commands = p.accepted <= MOST_COMMANDS && p.waits <= p.accepted && waiting_lawful(p);
     let addresses = p.addresses.next <= p.addresses.reach && p.addresses.reach <= STAGING_BYTES;
@@ -44,9 +46,16 @@ fn waiting_lawful(p: &Processor) -> bool {
 }
 
 #[inline(never)]
-pub fn event(p: Processor, event: &Event, tables: &[u8], slots: &mut [u32]) -> (Number, Processor) {
+pub fn event(
+    p: Processor,
+    event: &Event,
+    tables: &[u8],
+    slots: &mut [u32],
+    eligible_events: &mut EligibleEvents,
+) -> (Number, Processor) {
     let mut next = p;
-    let number = if within_limits(&p) { next.event(event, tables, slots) } else { BUFFER };
+    let within = within_limits(&p);
+    let number = if within { next.event(event, tables, slots, eligible_events) } else { BUFFER };
     (number, next)
 }
 

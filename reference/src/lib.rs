@@ -8,6 +8,7 @@
 pub mod causes;
 pub mod tables;
 
+pub mod sample_counts;
 pub mod samples;
 pub mod sorting;
 

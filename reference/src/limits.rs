@@ -11,10 +11,10 @@ pub fn within_limits(p: &Processor) -> bool {
 
 /// "taken 1,000,000; every box, beacon and other event count at most taken; 704 slots used".
 fn events_within(p: &Processor) -> bool {
-    let slots = [p.samples.used, p.samples.replaced];
+    let samples = [p.samples.eligible, p.samples.used, p.samples.replaced];
     p.taken <= 1_000_000
         && p.counts.boxes.iter().chain(&p.counts.beacons).all(|count| *count <= p.taken)
-        && slots.iter().all(|count| *count <= p.taken as usize)
+        && samples.iter().all(|count| *count <= p.taken as usize)
         && p.samples.used <= 704
 }
 
@@ -62,7 +62,7 @@ mod tests {
         let mut p = Processor { taken: 1_000_000, readings: 60, ..FRESH };
         p.counts.boxes[116] = 1_000_000;
         p.counts.beacons[12] = 1_000_000;
-        p.samples = Samples { used: 704, replaced: 1_000_000 };
+        p.samples = Samples { eligible: 1_000_000, used: 704, replaced: 1_000_000 };
         p.totals[7] = 3_932_100;
         assert!(within_limits(&p));
         assert!(!within_limits(&Processor { taken: 1_000_001, ..p }));
@@ -71,6 +71,17 @@ mod tests {
         assert!(!within_limits(&Processor { readings: 59, ..p }));
         p.samples.used = 705;
         assert!(!within_limits(&p));
+    }
+
+    #[test]
+    fn event_counts_are_at_most_taken() {
+        // Eligible, used, replaced: more may be used and replaced than were eligible.
+        for (eligible, used, replaced, within) in
+            [(5, 0, 0, true), (6, 0, 0, false), (0, 5, 5, true), (0, 6, 0, false), (0, 0, 6, false)]
+        {
+            let samples = Samples { eligible, used, replaced };
+            assert_eq!(within_limits(&Processor { taken: 5, samples, ..FRESH }), within, "{samples:?}");
+        }
     }
 
     #[test]

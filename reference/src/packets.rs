@@ -1,10 +1,11 @@
 //! Document 01, "Packets": the thirteen packets of 272 bytes that close writes; document 02,
-//! Point 5: rates in the second edition of their code.
+//! Point 5: rates in the second edition of their code; Point 7: three more of them in the beacon packet.
 
 use std::ops::Range;
 
 use crate::codes::Edition;
 use crate::commands::Settings;
+use crate::sample_counts::SampleCounts;
 use crate::samples::Slots;
 use crate::sorting::Counts;
 
@@ -27,7 +28,7 @@ pub const CONVERTED_MARK: u8 = 2;
 
 /// The codes of a rate packet, totals and boxes, and those of a beacon packet.
 pub const RATE_CODES: Range<usize> = CODES_AT..259;
-pub const BEACON_CODES: Range<usize> = CODES_AT..35;
+pub const BEACON_CODES: Range<usize> = CODES_AT..41;
 pub const CODES_AT: usize = 11;
 
 /// The edition that a mark stands for.
@@ -103,9 +104,16 @@ pub fn write_sample(packet: &mut [u8], time: u32, frame: u16, p: usize, slots: &
     });
 }
 
-pub fn write_beacon(packet: &mut [u8], time: u32, frame: u16, counts: &Counts) {
+/// Twelve beacons, then eligible, replaced and dropped.
+pub fn write_beacon(
+    packet: &mut [u8],
+    time: u32,
+    frame: u16,
+    counts: &Counts,
+    sample_counts: &SampleCounts,
+) {
     write_framed(packet, BEACON, time, frame, |packet| {
-        write_codes(packet, counts.beacons[1..].iter());
+        write_codes(packet, counts.beacons[1..].iter().chain(&sample_counts.in_order()));
     });
 }
 
@@ -172,12 +180,15 @@ mod tests {
         counts.beacons[1] = 4_097;
         counts.beacons[12] = 8_191;
         let mut packet = [0xEE; PACKET_BYTES];
-        write_beacon(&mut packet, 0, 0, &counts);
+        let sample_counts = SampleCounts { eligible: 1_000_000, replaced: 704, dropped: 8_192 };
+        write_beacon(&mut packet, 0, 0, &counts, &sample_counts);
         // Application number 624 is 270 hex.
         assert_eq!(packet[..2], [0x0A, 0x70]);
         assert_eq!(packet[11..13], [0x10, 0x01]);
         assert_eq!(packet[33..35], [0x1F, 0xFF]);
-        assert!(packet[35..269].iter().all(|b| *b == 0));
+        // Eligible, replaced, dropped: 704 is 2C0 hex.
+        assert_eq!(packet[35..41], [0x8E, 0x84, 0x02, 0xC0, 0x20, 0x00]);
+        assert!(packet[41..269].iter().all(|b| *b == 0));
         assert_eq!(packet[269..271], [1, 0]);
     }
 }

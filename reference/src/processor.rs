@@ -1,11 +1,13 @@
 //! The processor calls over one state: document 01's five, and document 02's listing. Each
-//! answers with a number, 0 when it was carried out; the buffers are lent to each call.
+//! answers with a number, 0 when it was carried out; the buffers are lent to each call. So is the
+//! list of the interval's eligible events: a state that is handed in has numbers without events.
 
 use crate::causes::*;
 use crate::commands::*;
 use crate::listing::*;
 use crate::loads::*;
 use crate::packets::*;
+use crate::sample_counts::{EligibleEvents, SampleCounts};
 use crate::samples::*;
 use crate::sorting::*;
 use crate::tables::{self, Tables};
@@ -47,10 +49,17 @@ pub struct Closed {
     pub taken: u32,
     pub counts: Counts,
     pub filled: usize,
+    pub sample_counts: SampleCounts,
 }
 
 impl Closed {
-    pub const REFUSED: Closed = Closed { number: BUFFER, taken: 0, counts: Counts::ZERO, filled: 0 };
+    pub const REFUSED: Closed = Closed {
+        number: BUFFER,
+        taken: 0,
+        counts: Counts::ZERO,
+        filled: 0,
+        sample_counts: SampleCounts::NONE,
+    };
 }
 
 /// "at close, each slot zero or of box 6 to 116": the box is in bits 7 to 1.
@@ -76,7 +85,13 @@ impl Processor {
 
     /// One event.
     #[inline]
-    pub fn event(&mut self, event: &Event, tables: &[u8], slots: &mut [u32]) -> Number {
+    pub fn event(
+        &mut self,
+        event: &Event,
+        tables: &[u8],
+        slots: &mut [u32],
+        eligible_events: &mut EligibleEvents,
+    ) -> Number {
         let (Ok(tables), Ok(slots)) = (<&Tables>::try_from(tables), <&mut Slots>::try_from(slots))
         else {
             return BUFFER;
@@ -94,6 +109,8 @@ impl Processor {
             if eligible(s.b, self.settings.junk) {
                 let record = record(event, &s);
                 self.samples.offer(slots, record, s.priority, self.settings.limhi);
+                eligible_events.add(s.priority);
+                self.samples.eligible = eligible_events.number();
             }
         }
         DONE
@@ -218,6 +235,7 @@ impl Processor {
         tables: &mut [u8],
         staging: &[u8],
         slots: &mut [u32],
+        eligible_events: &mut EligibleEvents,
         output: &mut [u8],
     ) -> Closed {
         let (Ok(tables), Ok(staging), Ok(slots), Ok(output)) = (
@@ -232,19 +250,11 @@ impl Processor {
         if !slots.iter().fold(true, |all, slot| all & slot_within(*slot)) {
             return Closed::REFUSED;
         }
-        let closed = Closed {
-            number: DONE,
-            taken: self.taken,
-            counts: self.counts,
-            filled: slots.iter().filter(|slot| **slot != 0).count(),
-        };
-        self.write_packets(time, tables, slots, output);
-        for waiting in self.waiting.into_iter().take(self.waits) {
-            if let Some(command) = waiting.given(self.addresses.reach) {
-                self.run(command, tables, staging);
-            }
-        }
+        let closed = self.closed(slots, eligible_events);
+        self.write_packets(time, tables, slots, &closed.sample_counts, output);
+        self.run_waiting(tables, staging);
         slots.fill(0);
+        eligible_events.clear();
         *self = Processor {
             frame: self.frame.wrapping_add(1),
             settings: self.settings,
@@ -252,6 +262,16 @@ impl Processor {
             ..Processor::FRESH
         };
         closed
+    }
+
+    /// What a close returns that is carried out.
+    fn closed(&self, slots: &Slots, eligible_events: &EligibleEvents) -> Closed {
+        let filled = slots.iter().filter(|slot| **slot != 0).count();
+        let sample_counts = eligible_events.sample_counts(self.settings.limhi, filled);
+        // The list says what the state says.
+        debug_assert_eq!(sample_counts.eligible as usize, self.samples.eligible);
+        debug_assert_eq!(sample_counts.replaced as usize, self.samples.replaced);
+        Closed { number: DONE, taken: self.taken, counts: self.counts, filled, sample_counts }
     }
 
     /// Writes listing packet i of the tables (document 02, Point 1); nothing aboard changes.
@@ -268,7 +288,14 @@ impl Processor {
     }
 
     /// Rate, samples 0 to 10, beacon.
-    fn write_packets(&self, time: u32, tables: &Tables, slots: &Slots, output: &mut [u8; OUTPUT_BYTES]) {
+    fn write_packets(
+        &self,
+        time: u32,
+        tables: &Tables,
+        slots: &Slots,
+        sample_counts: &SampleCounts,
+        output: &mut [u8; OUTPUT_BYTES],
+    ) {
         let table_sum = tables::sum(tables);
         for (k, packet) in output.chunks_exact_mut(PACKET_BYTES).enumerate() {
             match k {
@@ -281,13 +308,21 @@ impl Processor {
                     &self.settings,
                     table_sum,
                 ),
-                12 => write_beacon(packet, time, self.frame, &self.counts),
+                12 => write_beacon(packet, time, self.frame, &self.counts, sample_counts),
                 _ => write_sample(packet, time, self.frame, k - 1, slots),
             }
         }
     }
 
-    /// Runs one waiting command.
+    /// Runs the waiting commands, in order.
+    fn run_waiting(&mut self, tables: &mut Tables, staging: &Staging) {
+        for waiting in self.waiting.into_iter().take(self.waits) {
+            if let Some(command) = waiting.given(self.addresses.reach) {
+                self.run(command, tables, staging);
+            }
+        }
+    }
+
     fn run(&mut self, command: Command, tables: &mut Tables, staging: &Staging) {
         let settings = &mut self.settings;
         match command {
@@ -310,7 +345,7 @@ impl Processor {
 mod tests {
     use super::*;
     use crate::station::Station;
-    use crate::tables::{position, set_word, KHI, MATRIX, TABLE_BYTES};
+    use crate::tables::{position, set_word, KHI, KLO, MATRIX, TABLE_BYTES};
 
     /// All words zero but the cell that such tables lead to: u = 65,536, so f_m = 18, and
     /// f_e = 360,448 / 4,096 = 88.
@@ -611,6 +646,161 @@ mod tests {
         assert_eq!((station.processor.taken, station.slots[703]), (1, 10));
     }
 
+    fn send(station: &mut Station, event: &Event, times: usize) {
+        (0..times).for_each(|_| assert_eq!(station.event(event), DONE));
+    }
+
+    /// Eligible, replaced and dropped, by a close that is carried out.
+    fn sample_counts(station: &mut Station) -> [u32; 3] {
+        let closed = station.close(0);
+        assert_eq!(closed.number, DONE);
+        closed.sample_counts.in_order()
+    }
+
+    #[test]
+    fn events_after_the_704th_replace_or_are_dropped() {
+        let mut station = station([128 + 60, 0, 0]);
+        send(&mut station, &STOP, 704);
+        assert_eq!(sample_counts(&mut station.clone()), [704, 0, 0]);
+        send(&mut station, &STOP, 500);
+        assert_eq!(sample_counts(&mut station.clone()), [1_204, 500, 0]);
+        send(&mut station, &STOP, 100);
+        send(&mut station, &NO_STOP, 1); // discarded, which is not dropped
+        assert_eq!(sample_counts(&mut station), [1_304, 500, 100]);
+        // 1,304 is 518 hex, 500 1F4, 100 64; the beacon packet is the last of thirteen.
+        assert_eq!(station.output[12 * 272 + 35..][..7], [0x05, 0x18, 0x01, 0xF4, 0, 0x64, 0]);
+        assert_eq!(sample_counts(&mut station), [0; 3]);
+        assert_eq!(station.output[12 * 272 + 35..][..7], [0; 7]);
+    }
+
+    /// Gain 0 is box 60 with priority 1. By Klo gain 1 has u 0, so column 0: box 61 with priority 0.
+    fn of_both_priorities() -> Station {
+        let mut station = station([128 + 60, 0, 0]);
+        let tables = <&mut Tables>::try_from(&mut station.tables[..]).unwrap();
+        set_word(tables, KLO, 65_536);
+        set_word(tables, MATRIX + 88, 61 << 16);
+        station
+    }
+
+    const LOW: Event = Event { high: 4_095, ..STOP };
+
+    #[test]
+    fn limhi_and_priority_decide_who_replaces() {
+        for (limhi, replaced, dropped) in [(0, 0, 5), (2, 2, 3), (3, 3, 2), (704, 3, 2)] {
+            let mut station = of_both_priorities();
+            station.line(format!("limhi {limhi:x}").as_bytes());
+            station.close(0);
+            // The priority of the first 704 does not matter.
+            send(&mut station, &STOP, 300);
+            send(&mut station, &LOW, 404);
+            for late in [STOP, LOW, STOP, STOP, LOW] {
+                send(&mut station, &late, 1);
+            }
+            assert_eq!(sample_counts(&mut station), [709, replaced, dropped], "LIMHI {limhi}");
+        }
+    }
+
+    #[test]
+    fn every_slot_replaced_and_one_event_more() {
+        let mut station = of_both_priorities();
+        station.line(b"limhi 2c0");
+        station.close(0);
+        send(&mut station, &LOW, 704);
+        send(&mut station, &STOP, 704);
+        assert_eq!(sample_counts(&mut station.clone()), [1_408, 704, 0]);
+        send(&mut station, &STOP, 1);
+        assert_eq!(sample_counts(&mut station), [1_409, 704, 1]);
+    }
+
+    #[test]
+    fn boxes_6_and_7_are_eligible_with_junk_alone() {
+        let mut station = station([128 + 7, 0, 0]);
+        let tables = <&mut Tables>::try_from(&mut station.tables[..]).unwrap();
+        set_word(tables, KLO, 65_537); // gain 1 has u -1: out of bounds
+        station.line(b"junk 1");
+        station.line(b"limhi 1");
+        send(&mut station, &STOP, 800);
+        assert_eq!(sample_counts(&mut station), [0; 3]);
+        send(&mut station, &LOW, 4);
+        send(&mut station, &STOP, 700);
+        for late in [LOW, STOP, STOP] {
+            send(&mut station, &late, 1);
+        }
+        assert_eq!(sample_counts(&mut station), [707, 1, 2]);
+    }
+
+    #[test]
+    fn a_refused_close_returns_zeros_and_the_interval_goes_on() {
+        let mut station = station([128 + 60, 0, 0]);
+        send(&mut station, &STOP, 705);
+        let first = std::mem::replace(&mut station.slots[0], 5 << 1); // no sample has box 5
+        let closed = station.close(0);
+        assert_eq!(
+            (closed.number, closed.filled, closed.sample_counts),
+            (BUFFER, 0, SampleCounts::NONE)
+        );
+        station.slots[0] = first;
+        send(&mut station, &STOP, 1);
+        assert_eq!(sample_counts(&mut station), [706, 2, 0]);
+    }
+
+    /// A state of 1,000 events with these numbers, and so many slots filled.
+    fn handed(eligible: usize, used: usize, replaced: usize, filled: usize) -> Station {
+        let mut station = of_both_priorities();
+        let samples = Samples { eligible, used, replaced };
+        station.hand_in(Processor { taken: 1_000, samples, ..Processor::FRESH });
+        station.slots[..filled].fill(60 << 1);
+        station
+    }
+
+    #[test]
+    fn numbers_of_a_state_that_is_handed_in() {
+        for (eligible, filled, replaced, dropped) in [
+            (1_000, 704, 200, 96),
+            (1_000, 704, 296, 0),
+            (1_000, 704, 297, 0),
+            (5, 7, 0, 0),
+            (5, 3, 1, 1),
+            (5, 3, 3, 0),
+            (1_000, 0, 0, 1_000),
+        ] {
+            let mut station = handed(eligible, filled, replaced, filled);
+            assert_eq!(sample_counts(&mut station), [eligible as u32, replaced as u32, dropped]);
+        }
+    }
+
+    #[test]
+    fn a_state_that_is_handed_in_and_events_after_it() {
+        // Two slots are free; then one more may be replaced, as LIMHI is 500.
+        let mut station = handed(800, 702, 499, 702);
+        for late in [STOP, LOW, STOP, STOP, LOW] {
+            send(&mut station, &late, 1);
+        }
+        assert_eq!(station.processor.samples, Samples { eligible: 805, used: 704, replaced: 500 });
+        // 805 - 704 - 500 is below 0.
+        assert_eq!(sample_counts(&mut station), [805, 500, 0]);
+        // More are replaced than LIMHI allows: none more are.
+        let mut station = handed(1_000, 704, 600, 100);
+        send(&mut station, &STOP, 3);
+        assert_eq!(sample_counts(&mut station), [1_003, 600, 303]);
+        // The next interval is one of events alone.
+        send(&mut station, &STOP, 706);
+        assert_eq!(sample_counts(&mut station), [706, 2, 0]);
+    }
+
+    #[test]
+    fn slots_that_are_handed_in_are_filled_without_events() {
+        let mut station = of_both_priorities();
+        send(&mut station, &STOP, 3);
+        station.hand_in_slots(&[0, 0, 0, 60 << 1].repeat(704));
+        send(&mut station, &STOP, 2);
+        assert_eq!(station.processor.samples, Samples { eligible: 5, used: 5, replaced: 0 });
+        assert_eq!(sample_counts(&mut station), [5, 0, 0]);
+        send(&mut station, &STOP, 706);
+        station.hand_in_slots(&[0; 2_816]);
+        assert_eq!(sample_counts(&mut station), [706, 2, 704]);
+    }
+
     #[test]
     fn frames_are_modulo_65_536() {
         let mut station = station([8, 0, 0]);
@@ -640,9 +830,9 @@ mod tests {
     #[test]
     fn buffers_of_another_length() {
         let mut s = station([8, 0, 0]);
-        let p = &mut s.processor;
-        assert_eq!(p.event(&STOP, &s.tables[1..], &mut s.slots), BUFFER);
-        assert_eq!(p.event(&STOP, &s.tables, &mut s.slots[1..]), BUFFER);
+        let (p, e) = (&mut s.processor, &mut s.eligible_events);
+        assert_eq!(p.event(&STOP, &s.tables[1..], &mut s.slots, e), BUFFER);
+        assert_eq!(p.event(&STOP, &s.tables, &mut s.slots[1..], e), BUFFER);
         let refused = LineAnswer { number: BUFFER, sum: 0 };
         assert_eq!(p.line(&[0; 81], &s.staging, &s.bitmap, &mut s.echo[1..]), refused);
         assert_eq!(p.line(&[0; 81], &s.staging, &s.bitmap[1..], &mut s.echo), refused);
@@ -652,7 +842,8 @@ mod tests {
         assert_eq!(p.package(&[], &mut s.staging, &mut s.bitmap, &mut s.echo[1..]), BUFFER);
         assert_eq!(p.listing(250, 0, &s.tables[1..], &mut s.listed), BUFFER);
         assert_eq!(p.listing(250, 0, &s.tables, &mut s.listed[1..]), BUFFER);
-        let closed = p.close(0, &mut s.tables, &s.staging, &mut s.slots, &mut s.output[1..]);
+        let closed = p.close(0, &mut s.tables, &s.staging, &mut s.slots, e, &mut s.output[1..]);
         assert_eq!((closed.number, closed.taken, closed.filled), (BUFFER, 0, 0));
+        assert_eq!(closed.sample_counts, SampleCounts::NONE);
     }
 }

@@ -155,7 +155,8 @@ fn print_closed(out: &mut impl Write, frame: u16, closed: &Closed, output: &[u8]
     if closed.number != DONE {
         return writeln!(out, "close {}", closed.number);
     }
-    writeln!(out, "close 0 {frame} {} {}", closed.taken, closed.filled)?;
+    let Closed { taken, filled, sample_counts, .. } = closed;
+    numbers(out, &format!("close 0 {frame} {taken} {filled}"), &sample_counts.in_order())?;
     numbers(out, "boxes", &closed.counts.boxes[1..])?;
     numbers(out, "beacons", &closed.counts.beacons[1..])?;
     output.chunks_exact(PACKET_BYTES).try_for_each(|packet| print_out(out, packet))
@@ -188,9 +189,9 @@ fn print_packet(out: &mut impl Write, packet: &[u8]) -> Result<()> {
     }
 }
 
-/// A line of a name and decimal numbers.
-fn numbers(out: &mut impl Write, name: &str, values: &[u32]) -> Result<()> {
-    write!(out, "{name}")?;
+/// A line of what stands first and decimal numbers.
+fn numbers(out: &mut impl Write, first: &str, values: &[u32]) -> Result<()> {
+    write!(out, "{first}")?;
     for value in values {
         write!(out, " {value}")?;
     }

@@ -1,5 +1,5 @@
 //! The ground reader: document 01, "Packets" and causes 11 to 13; document 02, Points 5 and 6: both
-//! editions of the rate code, by the packet's mark.
+//! editions of the rate code, by the packet's mark; Point 7: a beacon packet's fifteen rates.
 
 use crate::causes::*;
 use crate::codes::Edition;
@@ -15,12 +15,13 @@ pub struct Packet<'a> {
     pub body: Body<'a>,
 }
 
-/// Rates are least counts, by the edition of the packet's mark.
+/// Rates are least counts, by the edition of the packet's mark; those of a beacon packet are twelve
+/// beacons, then eligible, replaced and dropped.
 #[derive(Debug, PartialEq, Eq)]
 pub enum Body<'a> {
     Rate { mark: u8, totals: [u32; 8], boxes: [u32; 116], settings: Settings, table_sum: u32 },
     Sample { p: u8, records: &'a [u8] },
-    Beacon { mark: u8, rates: [u32; 12] },
+    Beacon { mark: u8, rates: [u32; 15] },
 }
 
 pub fn read(packet: &[u8]) -> Result<Packet<'_>, Number> {
@@ -100,7 +101,7 @@ fn records_lawful(records: &[u8]) -> bool {
 }
 
 fn beacon(packet: &[u8]) -> Option<Body<'_>> {
-    let unused = [&packet[35..267], &packet[270..271]];
+    let unused = [&packet[41..267], &packet[270..271]];
     if unused.into_iter().flatten().any(|byte| *byte != 0) {
         return None;
     }
@@ -134,6 +135,7 @@ pub fn three_bytes(packet: &[u8], at: usize) -> u32 {
 #[cfg(test)]
 mod tests {
     use super::*;
+    use crate::sample_counts::SampleCounts;
     use crate::samples::SLOTS;
     use crate::sorting::Counts;
 
@@ -156,7 +158,9 @@ mod tests {
 
     fn beacon_packet() -> [u8; PACKET_BYTES] {
         let mut packet = [0; PACKET_BYTES];
-        write_beacon(&mut packet, 60, 7, &Counts { beacons: [5_000; 13], ..Counts::ZERO });
+        let counts = Counts { beacons: [5_000; 13], ..Counts::ZERO };
+        let sample_counts = SampleCounts { eligible: 1_000_000, replaced: 500, dropped: 8_193 };
+        write_beacon(&mut packet, 60, 7, &counts, &sample_counts);
         packet
     }
 
@@ -190,9 +194,10 @@ mod tests {
 
     #[test]
     fn a_beacon_packet_reads_back() {
-        // 5,000 is below 8,192: every n has its own code.
-        let body = Body::Beacon { mark: 1, rates: [5_000; 12] };
-        assert_eq!(read(&beacon_packet()).unwrap().body, body);
+        // 5,000 is below 8,192: every n has its own code. 8,193 has the least count 8,192.
+        let mut rates = [5_000; 15];
+        rates[12..].copy_from_slice(&[999_936, 500, 8_192]);
+        assert_eq!(read(&beacon_packet()).unwrap().body, Body::Beacon { mark: 1, rates });
     }
 
     #[test]
@@ -238,8 +243,11 @@ mod tests {
             assert_eq!(changed(rate_packet(), 261, 16 << bit), DONE);
         }
         assert_eq!(changed(sample_packet(3), 270, 128), BODY);
-        for at in (35..267).chain([270]) {
+        for at in (41..267).chain([270]) {
             assert_eq!(changed(beacon_packet(), at, 1), BODY);
+        }
+        for at in 11..41 {
+            assert_eq!(changed(beacon_packet(), at, 1), DONE);
         }
     }
 
@@ -250,7 +258,9 @@ mod tests {
             assert_eq!(changed(rate_packet(), at, 0xD0), BODY);
             assert_eq!(changed(rate_packet(), at, 0xCF), DONE);
         }
-        assert_eq!(changed(beacon_packet(), 33, 0xFF), BODY);
+        for at in [11, 33, 35, 37, 39] {
+            assert_eq!(changed(beacon_packet(), at, 0xFF), BODY);
+        }
         let mut packet = rate_packet();
         packet[262] = 2;
         assert_eq!(changed(packet, 263, 0xC0), DONE); // 2C0 hex is 704
@@ -291,7 +301,7 @@ mod tests {
                 marked[269] = mark;
                 marked[271] = packet_sum(&marked);
                 let body = read(&marked).unwrap().body;
-                assert_eq!(body, Body::Beacon { mark, rates: [least; 12] });
+                assert_eq!(body, Body::Beacon { mark, rates: [least; 15] });
             }
         }
     }

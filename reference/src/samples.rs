@@ -4,15 +4,18 @@ pub const SLOTS: usize = 704;
 
 pub type Slots = [u32; SLOTS];
 
-/// How far the slots are filled, and how many were then replaced.
+/// A state's numbers of the interval's samples: how many events were eligible, how far the slots are
+/// filled, and how many were then replaced.
 #[derive(Clone, Copy, Debug, PartialEq, Eq)]
 pub struct Samples {
+    /// Of the list of eligible events (module `sample_counts`).
+    pub eligible: usize,
     pub used: usize,
     pub replaced: usize,
 }
 
 impl Samples {
-    pub const NONE: Samples = Samples { used: 0, replaced: 0 };
+    pub const NONE: Samples = Samples { eligible: 0, used: 0, replaced: 0 };
 
     /// Offers an eligible event's record: the first 704 go into the slots in order; then
     /// those with priority 1 replace slots 0, 1, ... below LIMHI; all others drop out.

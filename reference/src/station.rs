@@ -10,6 +10,7 @@ use crate::limits::within_limits;
 use crate::loads::{BITMAP_BYTES, STAGING_BYTES};
 use crate::packets::{Bytes, OUTPUT_BYTES, PACKET_BYTES};
 use crate::processor::{Closed, Processor};
+use crate::sample_counts::EligibleEvents;
 use crate::samples::SLOTS;
 use crate::sorting::Event;
 use crate::tables::TABLE_BYTES;
@@ -22,6 +23,8 @@ pub struct Station {
     /// Which staged bytes are bad.
     pub bitmap: Vec<u8>,
     pub slots: Vec<u32>,
+    /// The interval's.
+    pub eligible_events: EligibleEvents,
     pub echo: [u8; ECHO_BYTES],
     /// The sum that the last line was answered with.
     pub sum: u32,
@@ -48,6 +51,7 @@ impl Station {
             staging: vec![0; STAGING_BYTES],
             bitmap: vec![0; BITMAP_BYTES],
             slots: vec![0; SLOTS],
+            eligible_events: EligibleEvents::default(),
             echo: [0; ECHO_BYTES],
             sum: 0,
             output: vec![0; OUTPUT_BYTES],
@@ -63,11 +67,13 @@ impl Station {
     /// Hands in a state, of any numbers.
     pub fn hand_in(&mut self, state: Processor) {
         self.processor = state;
+        self.eligible_events = EligibleEvents::after(state.samples);
         self.handed = true;
     }
 
-    /// Hands in the slots, four bytes a word.
+    /// Hands in the slots, four bytes a word: of what they hold there are no events either.
     pub fn hand_in_slots(&mut self, bytes: &[u8]) {
+        self.eligible_events = EligibleEvents::after(self.processor.samples);
         for (slot, word) in self.slots.iter_mut().zip(bytes.chunks_exact(4)) {
             *slot = u32::from_be_bytes(word.try_into().expect("four bytes"));
         }
@@ -87,11 +93,12 @@ impl Station {
         if self.over_limits() {
             return BUFFER;
         }
+        let Station { processor, tables, slots, eligible_events, .. } = self;
         if !self.judged {
-            return self.processor.event(event, &self.tables, &mut self.slots);
+            return processor.event(event, tables, slots, eligible_events);
         }
-        let (number, next) = judged::event(self.processor, event, &self.tables, &mut self.slots);
-        self.processor = next;
+        let (number, next) = judged::event(*processor, event, tables, slots, eligible_events);
+        *processor = next;
         number
     }
 
@@ -124,8 +131,8 @@ impl Station {
         if self.over_limits() {
             return Closed::REFUSED;
         }
-        let Station { processor, tables, staging, slots, output, .. } = self;
-        processor.close(time, tables, staging, slots, output)
+        let Station { processor, tables, staging, slots, eligible_events, output, .. } = self;
+        processor.close(time, tables, staging, slots, eligible_events, output)
     }
 
     pub fn listing(&mut self, i: u16, time: u32) -> Number {

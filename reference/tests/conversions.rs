@@ -3,7 +3,7 @@
 //! q x 2^s, is the second's 4,096 s + 2 q - 4,096, and an odd code of the second is none of the
 //! first. And that conversions of every kind occur.
 
-use std::collections::BTreeMap;
+use std::collections::{BTreeMap, BTreeSet};
 use std::slice::ChunksExactMut;
 
 use reference::calls::{read, Call, Form};
@@ -186,6 +186,23 @@ fn edges_of_both_editions_are_converted_and_refused() {
     }
 }
 
+#[test]
+fn counts_of_samples_are_converted_and_refused() {
+    let mut seen = BTreeSet::new();
+    for seed in 0..40 {
+        for (packet, first) in conversions(seed) {
+            if packet.len() == 272 && packet[1] == 0x70 && packet[35..41] != [0; 6] {
+                let number = answered(&packet, first).err().unwrap_or(0);
+                seen.insert((first, packet[269], number));
+            }
+        }
+    }
+    for case in [(false, 0, 0), (false, 0, 13), (true, 1, 0), (true, 2, 0), (true, 1, 17), (true, 2, 17)]
+    {
+        assert!(seen.contains(&case), "{case:?}");
+    }
+}
+
 fn archive(seed: u64, packets: usize, damaged: bool) -> Vec<u8> {
     let mut bytes = Vec::new();
     write_archive(seed, packets, damaged, &mut bytes).unwrap();
@@ -204,6 +221,8 @@ fn an_archive_is_of_the_first_edition() {
         // 605 to 616 and 624 are 25D to 268 and 270 hex.
         let k = i % 13;
         assert_eq!(packet[1] as usize, if k == 12 { 0x70 } else { 0x5D + k });
+        // No counts of samples yet.
+        assert!(k != 12 || packet[35..267].iter().all(|byte| *byte == 0));
         assert_eq!(answered(packet, false).is_ok(), k == 0 || k == 12);
         let time = *first.get_or_insert(read.time) + 60 * (i as u32 / 13);
         assert_eq!(read.time, time);

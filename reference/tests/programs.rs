@@ -162,6 +162,10 @@ fn minute_has_nothing_to_ask_for() {
     assert_eq!(run(Form::Minute, &lines.concat()), "refused 5\n".repeat(3));
 }
 
+fn zeros(n: usize) -> String {
+    " 0".repeat(n)
+}
+
 #[test]
 fn replay_prints_a_close_and_its_packets_read_back() {
     // A sample of box 8 by tables of zeros but for one cell, and a reading.
@@ -171,9 +175,9 @@ fn replay_prints_a_close_and_its_packets_read_back() {
     let reading = [&[2][..], &[0x10, 0x01], &[0; 14]].concat();
     let text = run_on(Form::Replay, tables.clone(), &[&event[..], &reading, &CLOSE].concat());
     let lines: Vec<&str> = text.lines().collect();
-    assert_eq!(lines[..3], ["event 0", "reading 0", "close 0 0 1 1"]);
-    assert_eq!(lines[3], format!("boxes 0 1 1 0 0 0 0 1{}", " 0".repeat(108)));
-    assert_eq!(lines[4], format!("beacons{}", " 0".repeat(12)));
+    assert_eq!(lines[..3], ["event 0", "reading 0", "close 0 0 1 1 1 0 0"]);
+    assert_eq!(lines[3], format!("boxes 0 1 1 0 0 0 0 1{}", zeros(108)));
+    assert_eq!(lines[4], format!("beacons{}", zeros(12)));
     assert_eq!(lines.len(), 5 + 13);
     let packets: Vec<Vec<u8>> = lines[5..]
         .iter()
@@ -193,13 +197,13 @@ fn replay_prints_a_close_and_its_packets_read_back() {
         read(&packets[0]),
         format!(
             "packet 0\nrate 0 60 0 1\nrates 4097{} 0 1 1 0 0 0 0 1{}\nsettings 0 0 0 0 0 500 {sum}\n",
-            " 0".repeat(7),
-            " 0".repeat(108)
+            zeros(7),
+            zeros(108)
         )
     );
     let records = digits(&[0x96, 0x3E, 0x80, 0x11], 256);
     assert_eq!(read(&packets[1]), format!("packet 0\nsample 0 60 0 0\nrecords {records}\n"));
-    assert_eq!(read(&packets[12]), format!("packet 0\nbeacon 0 60 0 1\nrates{}\n", " 0".repeat(12)));
+    assert_eq!(read(&packets[12]), format!("packet 0\nbeacon 0 60 0 1\nrates{} 1 0 0\n", zeros(12)));
     assert_eq!(run(Form::Replay, &[6, 0, 0]), "packet 11\n");
 }
 
@@ -252,6 +256,29 @@ fn replay_prints_converted_packets() {
         format!("first 0\nout {}\nfirst 13\nfirst 17\nfirst 11\n", digits(&first, 272)),
     ];
     assert_eq!(run(Form::Replay, &[there.concat(), back.concat()].concat()), expected.concat());
-    let read = "packet 0\nbeacon 7 60 7 2\nrates 4096 999936 4095 0 0 0 0 0 0 0 0 0\n";
+    let read = "packet 0\nbeacon 7 60 7 2\nrates 4096 999936 4095 0 0 0 0 0 0 0 0 0 0 0 0\n";
     assert_eq!(run(Form::Replay, &record(6, &second)), read);
+}
+
+#[test]
+fn replay_prints_what_became_of_the_samples() {
+    // Every event is of box 7: of gain 0 with priority 1; by Klo gain 1 has u 0, and priority 0.
+    let mut tables = vec![0; TABLE_BYTES];
+    tables[3 * (0x1000 + 128 * 18 + 88)] = 128 + 7;
+    tables[3 * (0xC201 - 0x7000)..][..3].copy_from_slice(&[1, 0, 0]);
+    let (high, low) = ([1, 0, 5, 0, 1, 0, 0, 8], [1, 0, 5, 0x0F, 0xFF, 0, 1, 8]);
+    let settings = [replay_line(b"junk 1"), replay_line(b"limhi 3"), CLOSE.to_vec()].concat();
+    // 704 fill the slots. Of 7 after them 4 have priority 1: 3 of these replace, 4 events are dropped.
+    let events =
+        [high.repeat(700), low.repeat(6), high.repeat(2), low.to_vec(), high.repeat(2)].concat();
+    let stream = [&settings[..], &events, &CLOSE, &events, &CLOSE].concat();
+    let text = run_on(Form::Replay, tables, &stream);
+    let closes: Vec<&str> = text.lines().filter(|line| line.starts_with("close")).collect();
+    assert_eq!(
+        closes,
+        ["close 0 0 0 0 0 0 0", "close 0 1 711 704 711 3 4", "close 0 2 711 704 711 3 4"]
+    );
+    // Bytes 35 to 41 of the beacon packet, which comes last; 711 is 2C7 hex.
+    let beacon = text.lines().last().unwrap().strip_prefix("out ").unwrap();
+    assert_eq!(&beacon[70..84], "02c70003000400");
 }

@@ -1,18 +1,20 @@
-//! What must hold of every generated stream: the box balances and the sample rule, each
-//! computed from the whole list of an interval's events; what asks and commits answer, from the
-//! whole list of packages; what a gatherer says, from the whole list of packets given to it; and
-//! that all causes occur.
+//! What must hold of every generated stream: the box balances, the sample rule and what became of the
+//! samples, each computed from the whole list of an interval's events; what asks and commits answer,
+//! from the whole list of packages; what a gatherer says, from the whole list of packets given to it;
+//! and that all causes occur.
 
 use std::collections::BTreeSet;
 use std::ops::Range;
 
 use reference::calls::{read, Call, Form};
+use reference::commands::Settings;
 use reference::generate::{stories, Stream};
 use reference::listing::{first_address, listed_bytes};
 use reference::packets::{packet_sum, BEACON_CODES, RATE_CODES};
 use reference::processor::Closed;
 use reference::programs::program;
 use reference::reader::{self, Body};
+use reference::sample_counts::SampleCounts;
 use reference::samples::SLOTS;
 use reference::sorting::{eligible, record, sort, Event, Sorted};
 use reference::station::Station;
@@ -26,8 +28,11 @@ fn stream(seed: u64, calls: usize, form: Form) -> Stream {
 
 /// Carries out a stream's calls in order; those that `own` takes over, and answers true for,
 /// by `own` alone.
-fn carried_out(seed: u64, mut own: impl FnMut(&mut Station, &Call) -> bool) {
-    let stream = stream(seed, 5_000, Form::Replay);
+fn carried_out(seed: u64, own: impl FnMut(&mut Station, &Call) -> bool) {
+    carried_out_of(stream(seed, 5_000, Form::Replay), own);
+}
+
+fn carried_out_of(stream: Stream, mut own: impl FnMut(&mut Station, &Call) -> bool) {
     let mut station = Station::new(stream.tables).unwrap();
     let mut input = &stream.bytes[..];
     while let Ok(Some(call)) = read(&mut input, Form::Replay) {
@@ -45,15 +50,28 @@ fn carried_out(seed: u64, mut own: impl FnMut(&mut Station, &Call) -> bool) {
     }
 }
 
-/// The sample rule said of the whole list, not step by step.
-fn slots_of(events: &[(Event, Sorted)], junk: bool, limhi: usize) -> Vec<u32> {
-    let eligible: Vec<_> = events.iter().filter(|(_, s)| eligible(s.b, junk)).collect();
+/// The sample rule said of the whole list of eligible events, not step by step.
+fn slots_of(eligible: &[(Event, Sorted)], limhi: usize) -> Vec<u32> {
     let (first, later) = eligible.split_at(eligible.len().min(SLOTS));
     let mut slots: Vec<u32> = first.iter().map(|(e, s)| record(e, s)).collect();
     for (h, (e, s)) in later.iter().filter(|(_, s)| s.priority == 1).take(limhi).enumerate() {
         slots[h] = record(e, s);
     }
     slots
+}
+
+/// Eligible, replaced and dropped, each from the same list.
+fn sample_counts_of(eligible: &[(Event, Sorted)], limhi: usize) -> [u32; 3] {
+    let late = || eligible.iter().skip(SLOTS).map(|(_, s)| s.priority);
+    let replaced = late().filter(|priority| *priority == 1).count().min(limhi);
+    // One after the other: the first LIMHI of priority 1 are none of them.
+    let mut left = limhi;
+    let dropped = late().filter(|priority| {
+        let replaces = *priority == 1 && left > 0;
+        left -= replaces as usize;
+        !replaces
+    });
+    [eligible.len(), replaced, dropped.count()].map(|count| count as u32)
 }
 
 /// Rates read back are at most the counts, and short of them by less than one part in 4,096.
@@ -66,37 +84,50 @@ fn check_rates(output: &[u8], closed: &Closed, totals: &[u32; 8]) {
                 rates.extend(read.iter().chain(&boxes));
             }
             Body::Beacon { mark: 1, rates: read } => {
-                counts.extend(&closed.counts.beacons[1..]);
+                counts.extend(closed.counts.beacons[1..].iter().chain(&closed.sample_counts.in_order()));
                 rates.extend(&read);
             }
             body => assert!(matches!(body, Body::Sample { .. })),
         }
     }
-    assert_eq!((counts.len(), rates.len()), (136, 136));
+    assert_eq!((counts.len(), rates.len()), (139, 139));
     for (n, least) in counts.iter().zip(&rates) {
         assert!(n == least || n > least && 4_096 * (n - least) < *n, "{n} {least}");
     }
 }
 
-fn check_close(station: &mut Station, events: &[Event], time: u32) {
-    let settings = station.processor.settings;
-    let tables = station.tables.as_slice().try_into().unwrap();
-    let sorted: Vec<(Event, Sorted)> =
-        events.iter().filter_map(|event| Some((*event, sort(event, tables, &settings)?))).collect();
-    let expected = slots_of(&sorted, settings.junk, settings.limhi as usize);
-
-    let totals = station.processor.totals;
-    let closed = station.close(time);
-    let boxes = closed.counts.boxes.map(|n| n as usize);
+fn check_boxes(boxes: &[usize; 117], events: usize, sorted: &[(Event, Sorted)]) {
     let classified: usize = boxes[7..].iter().sum();
-    assert_eq!(closed.taken as usize, events.len());
-    assert_eq!(events.len(), boxes[5] + boxes[3] + boxes[4]);
+    assert_eq!(events, boxes[5] + boxes[3] + boxes[4]);
     assert_eq!(boxes[3] + boxes[4], boxes[6] + classified);
     assert_eq!(boxes[1] + boxes[2], classified);
     for b in 6..=116 {
         assert_eq!(boxes[b], sorted.iter().filter(|(_, s)| s.b as usize == b).count());
     }
+}
+
+/// What the close of an interval of these events returned.
+fn check_close(station: &mut Station, events: &[Event], time: u32) -> Closed {
+    let settings = station.processor.settings;
+    let tables = station.tables.as_slice().try_into().unwrap();
+    let sorted: Vec<(Event, Sorted)> =
+        events.iter().filter_map(|event| Some((*event, sort(event, tables, &settings)?))).collect();
+    let limhi = settings.limhi as usize;
+    let eligible: Vec<_> =
+        sorted.iter().filter(|(_, s)| eligible(s.b, settings.junk)).copied().collect();
+    let expected = slots_of(&eligible, limhi);
+
+    let totals = station.processor.totals;
+    let closed = station.close(time);
+    let boxes = closed.counts.boxes.map(|n| n as usize);
+    assert_eq!(closed.taken as usize, events.len());
+    check_boxes(&boxes, events.len(), &sorted);
     assert_eq!(closed.filled, expected.len());
+    let sample_counts = sample_counts_of(&eligible, limhi);
+    assert_eq!(closed.sample_counts.in_order(), sample_counts);
+    assert_eq!(sample_counts[0], closed.filled as u32 + sample_counts[1] + sample_counts[2]);
+    let junk = if settings.junk { boxes[6] + boxes[7] } else { 0 };
+    assert_eq!(sample_counts[0] as usize, boxes[8..].iter().sum::<usize>() + junk);
 
     let mut slots = Vec::new();
     for packet in station.output.chunks(272) {
@@ -108,24 +139,56 @@ fn check_close(station: &mut Station, events: &[Event], time: u32) {
     check_rates(&station.output, &closed, &totals);
     assert_eq!(slots[..expected.len()], expected);
     assert!(slots[expected.len()..].iter().all(|slot| *slot == 0));
+    closed
+}
+
+/// Checks every interval of a stream. Of each: junk, LIMHI, and what its close returned.
+fn checked_intervals(stream: Stream) -> Vec<(bool, u16, Closed)> {
+    let (mut events, mut intervals) = (Vec::new(), Vec::new());
+    carried_out_of(stream, |station, call| {
+        match call {
+            Call::Event(event) if station.event(event) == 0 => events.push(*event),
+            Call::Event(_) => {}
+            Call::Close(time) => {
+                let Settings { junk, limhi, .. } = station.processor.settings;
+                intervals.push((junk, limhi, check_close(station, &events, *time)));
+                events.clear();
+            }
+            _ => return false,
+        }
+        true
+    });
+    intervals
 }
 
 #[test]
 fn balances_and_samples_of_every_interval() {
     for seed in 0..12 {
-        let mut events = Vec::new();
-        carried_out(seed, |station, call| {
-            match call {
-                Call::Event(event) if station.event(event) == 0 => events.push(*event),
-                Call::Event(_) => {}
-                Call::Close(time) => {
-                    check_close(station, &events, *time);
-                    events.clear();
-                }
-                _ => return false,
+        checked_intervals(stream(seed, 5_000, Form::Replay));
+    }
+}
+
+#[test]
+fn samples_are_replaced_and_dropped_in_many_ways() {
+    // Realistic tables, and wild ones of which half the cells have priority 1.
+    for seed in [92, 93] {
+        let mut stream = Stream::new(seed, Form::Replay);
+        stream.every_busy_interval();
+        let mut seen = BTreeSet::new();
+        for (junk, limhi, closed) in checked_intervals(stream) {
+            let SampleCounts { replaced, dropped, .. } = closed.sample_counts;
+            let reached = if replaced == limhi as u32 { "reached" } else { "not reached" };
+            seen.insert((junk, limhi, reached, dropped > 0));
+        }
+        for junk in [false, true] {
+            assert!(seen.contains(&(junk, 0, "reached", false)));
+            for limhi in [0, 1, 500, 704] {
+                assert!(seen.contains(&(junk, limhi, "reached", true)), "{seed} {junk} {limhi}");
             }
-            true
-        });
+            for limhi in [500, 704] {
+                assert!(seen.contains(&(junk, limhi, "not reached", true)), "{seed} {junk} {limhi}");
+            }
+        }
     }
 }
 
@@ -411,6 +474,38 @@ fn a_refused_call_leaves_the_state() {
     }
 }
 
+/// Four bytes of a state that is shown.
+fn four_at(state: &str, byte: usize) -> i64 {
+    i64::from_str_radix(&state[2 * byte..2 * byte + 8], 16).unwrap()
+}
+
+#[test]
+fn closes_of_states_go_by_their_numbers() {
+    let (mut replacing, mut dropping, mut odd) = (0, 0, 0);
+    for (seed, limits) in (0..12).map(|seed| (seed, false)).chain([(1, true), (2, true)]) {
+        let lines = answers_with_states(seed, limits);
+        for two in calls_and_states(&lines).windows(2) {
+            let [("state", before), ("close", answer)] = two else {
+                continue;
+            };
+            let numbers: Vec<i64> = answer.split(' ').map(|word| word.parse().unwrap()).collect();
+            let [0, _, _, filled, eligible, replaced, dropped] = numbers[..] else {
+                continue;
+            };
+            if before.is_empty() {
+                continue;
+            }
+            assert_eq!((eligible, replaced), (four_at(before, 774), four_at(before, 522)));
+            let left = eligible - filled - replaced;
+            assert_eq!(dropped, left.max(0));
+            replacing += (replaced > 0) as usize;
+            dropping += (left > 0) as usize;
+            odd += (left < 0) as usize;
+        }
+    }
+    assert!(replacing > 20 && dropping > 20 && odd > 20, "{replacing} {dropping} {odd}");
+}
+
 #[test]
 fn every_limit_is_met_and_passed() {
     let lines = answers_with_states(1, true);
@@ -455,6 +550,6 @@ fn minute_and_replay_read_the_example_alike() {
     let text = run(Form::Replay);
     let close = text.lines().find(|line| line.starts_with("close")).unwrap();
     let [frame, taken, .., filled] = minute[..] else { panic!() };
-    assert_eq!(close, format!("close 0 {frame} {taken} {filled}"));
+    assert!(close.starts_with(&format!("close 0 {frame} {taken} {filled} ")), "{close}");
     assert_eq!(filled, "704");
 }

@@ -16,14 +16,20 @@ pub(crate) fn print_out(text: &mut Text, packet: &[u8]) {
     print_bytes(text, "out", packet);
 }
 
-// The ended frame, taken and the filled slots behind the number; then the counts and the packets.
+// Frame, taken, filled, eligible, replaced and dropped behind the number; then the counts and the packets.
 fn print_ended(text: &mut Text, frame: u16, ended: Summary, packets: &[u8]) {
     let Summary {
         taken,
         counts,
         filled,
+        eligible,
+        replaced,
+        dropped,
     } = ended;
-    writeln!(text, "close 0 {frame} {taken} {filled}");
+    writeln!(
+        text,
+        "close 0 {frame} {taken} {filled} {eligible} {replaced} {dropped}"
+    );
     print_counts(text, counts);
     for packet in packets.chunks_exact(PACKET_BYTES) {
         print_out(text, packet);

@@ -49,9 +49,9 @@ fn print_contents(text: &mut Text, packet: Packet, bytes: &[u8]) {
             print_header(text, "sample", packet, p);
             print_bytes(text, "records", ground::records(bytes));
         }
-        Contents::Beacon { mark, beacons } => {
+        Contents::Beacon { mark, rates } => {
             print_header(text, "beacon", packet, mark.number());
-            print_rates(text, &beacons);
+            print_rates(text, &rates);
         }
     }
 }

@@ -1,4 +1,5 @@
 pub mod Recoded
 pub mod Reread
+pub mod Archive
 pub mod Converts
 pub mod When

@@ -2,16 +2,16 @@
 use Rattle.std.proofs.Common.{Option, Some, ◌≡◌, sym, ap, ◌∙◌, inl, inr, true, ◌&&◌, List, ℕ, ◌+◌, ◌*◌, ◌/◌, ◌%◌, ◌≤◌, ◌<◌, arith}
 use Rattle.std.proofs.Common.{leb, eqb, length, get_or, le-leb}
 use Rattle.causes.specs.Causes.{carried_out}
-use Rattle.wire.specs.Bits.{is_set}
 use Rattle.wire.specs.Bytes.{at16, zeros}
 use Rattle.wire.proofs.Lists.{and_left}
 use Rattle.wire.proofs.Pieces.{each_same}
-use Rattle.boxes.specs.Boxes.{beacon_count}
+use Rattle.packet.specs.Layout.{beacon_rate_count}
 use Rattle.settings.specs.declared.Settings.{Settings}
 use Rattle.rate_code.specs.Editions.{converted_mark}
 use Rattle.packet.specs.Layout.{application_at, sequence_at, length_at, time_at, zero_at, body_at, sum_at, packet_bytes, frame_at, mark_at, last_at}
+use Rattle.settings.specs.Settings.{settings_by}
 use Rattle.packet.specs.Layout.{secondary_flag, sequence_flags, sequence_counts, length_field, code_bytes, rate_count, beacon_end}
-use Rattle.packet.specs.Layout.{beacon_unused, gap_at, hvstep_at, flags_at, limhi_at, table_sum_at, hv_flag, eonly_flag, toferror_flag, junk_flag}
+use Rattle.packet.specs.Layout.{beacon_unused, gap_at, hvstep_at, flags_at, limhi_at, table_sum_at, junk_flag}
 use Rattle.decode.specs.declared.kind.Kind.{Kind}
 use Rattle.decode.specs.declared.kind.Kind.TheVariants.{Rate, Beacon}
 use Rattle.decode.specs.Limits.{largest_limhi}
@@ -90,10 +90,10 @@ module _ (wanted n : ℕ) (xs : List ℕ) (lx : length xs ≡ packet_bytes) (fit
   codes_same g = codes_recoded wanted n xs lx fits g ∙ sym g
 
   -- its header and frame are those of before, whatever else is read of it
-  accepted_same : (k : Option Kind) (mark : ℕ) (rates : List ℕ) (s : Settings) (sum : ℕ) (beacons : List ℕ) (p : ℕ)
-      → accepted k ys wanted rates s sum beacons p ≡ with_mark wanted (accepted k xs mark rates s sum beacons p)
+  accepted_same : (k : Option Kind) (mark : ℕ) (rates : List ℕ) (s : Settings) (sum : ℕ) (beacon_rates : List ℕ) (p : ℕ)
+      → accepted k ys wanted rates s sum beacon_rates p ≡ with_mark wanted (accepted k xs mark rates s sum beacon_rates p)
   unfolding accepted
-  accepted_same k mark rates s sum beacons p =
+  accepted_same k mark rates s sum beacon_rates p =
       λ i.
       record {
         number = carried_out;
@@ -106,7 +106,7 @@ module _ (wanted n : ℕ) (xs : List ℕ) (lx : length xs ≡ packet_bytes) (fit
         rates = rates;
         settings = s;
         sum = sum;
-        beacons = beacons;
+        beacon_rates = beacon_rates;
         p = p;
       }
 
@@ -136,15 +136,7 @@ module _ (wanted : ℕ) (xs : List ℕ) (lx : length xs ≡ packet_bytes) where
   settings_same =
       let f = behind flags_at (omega arith) (omega arith) in
       let s = behind hvstep_at (omega arith) (omega arith) in
-      λ k.
-      record {
-        limhi = limhi_same k;
-        eonly = is_set (f k) eonly_flag;
-        toferror = is_set (f k) toferror_flag;
-        junk = is_set (f k) junk_flag;
-        hv = is_set (f k) hv_flag;
-        hvstep = s k;
-      }
+      λ k. settings_by (f k) (limhi_same k) (s k)
 
   pub rate_good_lem : wanted ≤ converted_mark → rate_good xs ≡ true → rate_good zs ≡ true
   unfolding rate_good
@@ -160,29 +152,29 @@ module _ (wanted : ℕ) (xs : List ℕ) (lx : length xs ≡ packet_bytes) where
   rate_same e =
       let f = rates_fit (Some Rate) in
       (λ k. accepted (Some Rate) zs (mark_recoded wanted rate_count xs lx f k) (rates_recoded wanted rate_count xs lx f e k) (settings_same k) (sum_same k)
-      (zeros beacon_count) 0)
-      ∙ accepted_same wanted rate_count xs lx f (Some Rate) (mark_of xs) (rates_of rate_count xs) (settings_of xs) (sum_of xs) (zeros beacon_count) 0
+      (zeros beacon_rate_count) 0)
+      ∙ accepted_same wanted rate_count xs lx f (Some Rate) (mark_of xs) (rates_of rate_count xs) (settings_of xs) (sum_of xs) (zeros beacon_rate_count) 0
 
 -- ---- a beacon packet
 
 module _ (wanted : ℕ) (xs : List ℕ) (lx : length xs ≡ packet_bytes) where
   abbrev bs : List ℕ
-  bs = recoded wanted beacon_count xs
+  bs = recoded wanted beacon_rate_count xs
 
   pub beacon_good_lem : wanted ≤ converted_mark → beacon_good xs ≡ true → beacon_good bs ≡ true
   unfolding beacon_good zeros_good
   beacon_good_lem h g =
-      let c = codes_same wanted beacon_count xs lx (rates_fit (Some Beacon)) (beacon_codes xs g) in
+      let c = codes_same wanted beacon_rate_count xs lx (rates_fit (Some Beacon)) (beacon_codes xs g) in
       let z = each_same beacon_unused (λ i. eqb (get_or bs (beacon_end + i) 0) 0) (λ i. eqb (get_or xs (beacon_end + i) 0) 0) (λ i l.
       ap (λ (x : ℕ). eqb x 0)
-      (rest wanted beacon_count xs lx (rates_fit (Some Beacon)) (beacon_end + i) (omega arith) (omega (arith, l)) (λ e. omega (arith, l, e)))) in
-      let e = end_same wanted beacon_count xs lx (rates_fit (Some Beacon)) h (beacon_end_lem xs g) in
+      (rest wanted beacon_rate_count xs lx (rates_fit (Some Beacon)) (beacon_end + i) (omega arith) (omega (arith, l)) (λ e. omega (arith, l, e)))) in
+      let e = end_same wanted beacon_rate_count xs lx (rates_fit (Some Beacon)) h (beacon_end_lem xs g) in
       (λ k. c k && z k && e k) ∙ g
 
-  pub beacon_same : rates_exact wanted beacon_count xs ≡ true → contents (Some Beacon) bs ≡ with_mark wanted (contents (Some Beacon) xs)
+  pub beacon_same : rates_exact wanted beacon_rate_count xs ≡ true → contents (Some Beacon) bs ≡ with_mark wanted (contents (Some Beacon) xs)
   unfolding contents
   beacon_same e =
       let f = rates_fit (Some Beacon) in
-      (λ k. accepted (Some Beacon) bs (mark_recoded wanted beacon_count xs lx f k) (zeros rate_count) no_settings 0
-      (rates_recoded wanted beacon_count xs lx f e k) 0)
-      ∙ accepted_same wanted beacon_count xs lx f (Some Beacon) (mark_of xs) (zeros rate_count) no_settings 0 (rates_of beacon_count xs) 0
+      (λ k. accepted (Some Beacon) bs (mark_recoded wanted beacon_rate_count xs lx f k) (zeros rate_count) no_settings 0
+      (rates_recoded wanted beacon_rate_count xs lx f e k) 0)
+      ∙ accepted_same wanted beacon_rate_count xs lx f (Some Beacon) (mark_of xs) (zeros rate_count) no_settings 0 (rates_of beacon_rate_count xs) 0

@@ -4,9 +4,8 @@ use Rattle.causes.specs.Causes.{carried_out, buffer_or_state, body_fault, no_fir
 use Rattle.causes.specs.Checks.{Check, number_by}
 use Rattle.wire.specs.Bytes.{put}
 use Rattle.wire.specs.Pieces.{each}
-use Rattle.boxes.specs.Boxes.{beacon_count}
 use Rattle.rate_code.specs.Editions.{first_mark, converted_mark, is_first, exact_by}
-use Rattle.packet.specs.Layout.{packet_bytes, body_at, mark_at, sum_at, rate_count}
+use Rattle.packet.specs.Layout.{packet_bytes, body_at, mark_at, sum_at, rate_count, beacon_rate_count}
 use Rattle.packet.specs.Packet.{summed, codes}
 use Rattle.decode.specs.declared.kind.Kind.{Kind}
 use Rattle.decode.specs.declared.kind.Kind.TheVariants.{Rate, Sample, Beacon}
@@ -16,7 +15,7 @@ use Rattle.decode.specs.Read.{application_of, kind_of, mark_of, rate_at, rates_o
 abbrev pub rates_in : Option Kind → ℕ
 rates_in (Some Rate) = rate_count
 rates_in (Some Sample) = 0
-rates_in (Some Beacon) = beacon_count
+rates_in (Some Beacon) = beacon_rate_count
 rates_in None = 0
 
 abbrev pub rate_count_of : List ℕ → ℕ

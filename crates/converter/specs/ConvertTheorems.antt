@@ -10,9 +10,9 @@ use Rattle.packet.specs.Layout.{packet_bytes, mark_at, sum_at}
 use Rattle.packet.specs.Packet.{summed}
 use Rattle.decode.specs.declared.kind.Kind.{Kind}
 use Rattle.decode.specs.declared.kind.Kind.TheVariants.{Rate, Sample, Beacon}
-use Rattle.decode.specs.Read.{mark_of}
+use Rattle.decode.specs.Read.{mark_of, zeros_good}
 use Rattle.ground.specs.Ground.{Packet, read_of}
-use Rattle.converter.specs.Convert.{convert_checks, Converted, convert_done, to_second, to_first}
+use Rattle.converter.specs.Convert.{recoded, rates_exact, convert_checks, Converted, convert_done, to_second, to_first}
 
 -- ---- the bytes
 
@@ -45,7 +45,7 @@ with_mark mark p =
       rates = p.rates;
       settings = p.settings;
       sum = p.sum;
-      beacons = p.beacons;
+      beacon_rates = p.beacon_rates;
       p = p.p;
     }
 
@@ -54,6 +54,12 @@ abbrev pub ConvertedRead : Type 0
 ConvertedRead =
     (wanted : ℕ) (xs out : List ℕ) → wanted ≤ converted_mark → (convert_done wanted xs out).number ≡ carried_out
     → read_of (convert_done wanted xs out).out ≡ with_mark wanted (read_of xs)
+
+-- a beacon packet of the archive, with zeros "at bytes 35-40" (document 02, Point 7), is judged and written as it was with twelve rates
+abbrev pub ArchiveConverted : Type 0
+ArchiveConverted =
+    (wanted : ℕ) (xs : List ℕ) → length xs ≡ packet_bytes → zeros_good 35 6 xs ≡ true
+    → (rates_exact wanted 15 xs ≡ rates_exact wanted 12 xs) × (recoded wanted 15 xs ≡ recoded wanted 12 xs)
 
 -- ---- when a packet is converted, and otherwise the number, by what the reader says of it
 
@@ -73,7 +79,7 @@ InFirst xs = (read_of xs).mark ≡ first_mark
 abbrev pub rates_for : Option Kind → Packet → List ℕ
 rates_for (Some Rate) p = p.rates
 rates_for (Some Sample) p = []
-rates_for (Some Beacon) p = p.beacons
+rates_for (Some Beacon) p = p.beacon_rates
 rates_for None p = []
 
 abbrev pub rates_read : List ℕ → List ℕ

@@ -9,7 +9,6 @@ ghost use Rattle.converter.specs.Convert.{rates_in, rate_count_of, convertible, 
 
 mod rates;
 
-use boxes::BEACONS;
 use causes::{Cause, check};
 use decode::faults::{Accepted, judge};
 use decode::kind::Kind;
@@ -32,7 +31,7 @@ fn rates_in(kind: Kind) -> usize
     match kind {
         Kind::Rate => layout::RATES,
         Kind::Sample => 0,
-        Kind::Beacon => BEACONS,
+        Kind::Beacon => layout::BEACON_RATES,
     }
 }
 

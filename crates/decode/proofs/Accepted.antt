@@ -12,13 +12,12 @@ use Rattle.wire.proofs.Pieces.{table_is, each_all}
 use Rattle.settings.specs.declared.Settings.{Settings}
 use Rattle.settings.specs.Settings.{settings_by}
 use Rattle.settings.proofs.FlagLaws.{flags_back as own_flags}
-use Rattle.boxes.specs.Boxes.{beacon_count}
 use Rattle.sample_record.specs.Record.{record_good}
 use Rattle.packet.specs.declared.stamp.Stamp.{Stamp}
 use Rattle.rate_code.specs.Rate.{count_limit}
 use Rattle.rate_code.specs.Editions.{code_by, least_by, valid_by}
 use Rattle.packet.specs.Layout.{body_at, inner_bytes, secondary_flag, body_bytes, code_bytes}
-use Rattle.packet.specs.Layout.{rate_count, record_count, beacon_end, beacon_unused}
+use Rattle.packet.specs.Layout.{rate_count, record_count, beacon_rate_count, beacon_end, beacon_unused}
 use Rattle.packet.specs.Layout.{gap_at, hvstep_at, limhi_at, junk_flag}
 use Rattle.packet.specs.Packet.{rate_application, sample_application, beacon_application, application_of_sample, stamp_of, trailer, packet_of}
 use Rattle.packet.specs.Packet.{codes, settings_flags, settings_bytes, rate_body, beacon_body}
@@ -215,31 +214,31 @@ module _ (st : Stamp) (fits : StampFits last_sample st) (records : List ℕ) (v 
 
 -- ---- a beacon packet
 
-module _ (st : Stamp) (fits : StampFits last_mark st) (beacons : List ℕ) (v : BeaconValues beacons) where
+module _ (st : Stamp) (fits : StampFits last_mark st) (rates : List ℕ) (v : BeaconValues rates) where
   abbrev beacon_body_lem : List ℕ
-  beacon_body_lem = beacon_body st.mark beacons
+  beacon_body_lem = beacon_body st.mark rates
 
   abbrev beacon_is : List ℕ
   beacon_is = packet_of beacon_application st beacon_body_lem
 
   pub beacon_length : length beacon_body_lem ≡ body_bytes
-  beacon_length = length_beacon_body st.mark beacons v.beacons_are
+  beacon_length = length_beacon_body st.mark rates v.rates_are
 
-  pub beacon_codes : (codes_good beacon_count beacon_is ≡ true)
-      × (rates_of beacon_count beacon_is ≡ map (λ c. least_by st.mark (code_by st.mark c)) beacons)
+  pub beacon_codes : (codes_good beacon_rate_count beacon_is ≡ true)
+      × (rates_of beacon_rate_count beacon_is ≡ map (λ c. least_by st.mark (code_by st.mark c)) rates)
   beacon_codes =
-      codes_back beacon_application st beacon_body_lem beacon_length (omega arith) beacons (zeros beacon_unused) refl
-      v.beacons_fit beacon_count v.beacons_are
+      codes_back beacon_application st beacon_body_lem beacon_length (omega arith) rates (zeros beacon_unused) refl
+      v.rates_fit beacon_rate_count v.rates_are
 
   unused_back : zeros_good beacon_end beacon_unused beacon_is ≡ true
   unfolding zeros_good
   unused_back =
       each_all _ beacon_unused (λ i h.
-      let q : beacon_end + i ≡ body_at + (code_bytes * beacon_count + i) = omega arith in
+      let q : beacon_end + i ≡ body_at + (code_bytes * beacon_rate_count + i) = omega arith in
       eq-eqb _ _ (ap (λ (n : ℕ). get_or beacon_is n 0) q
-      ∙ back.body_at_lem beacon_application st beacon_body_lem beacon_length (code_bytes * beacon_count + i) (omega arith)
-      ∙ behind (codes st.mark beacons) (zeros beacon_unused) (code_bytes * beacon_count) i
-      (length_codes st.mark beacons ∙ omega (arith, v.beacons_are))
+      ∙ back.body_at_lem beacon_application st beacon_body_lem beacon_length (code_bytes * beacon_rate_count + i) (omega arith)
+      ∙ behind (codes st.mark rates) (zeros beacon_unused) (code_bytes * beacon_rate_count) i
+      (length_codes st.mark rates ∙ omega (arith, v.rates_are))
       ∙ get_or-replicate beacon_unused i 0 0 h))
 
   beacon_good_back : beacon_good beacon_is ≡ true

@@ -6,8 +6,7 @@ use Rattle.causes.specs.Checks.{Passed}
 use Rattle.causes.proofs.CheckLaws.{all_passed}
 use Rattle.wire.specs.Bytes.{at16}
 use Rattle.wire.proofs.Lists.{and_left, and_right}
-use Rattle.boxes.specs.Boxes.{beacon_count}
-use Rattle.packet.specs.Layout.{packet_bytes, rate_count, gap_at, limhi_at, junk_flag, beacon_end, beacon_unused}
+use Rattle.packet.specs.Layout.{packet_bytes, rate_count, gap_at, limhi_at, junk_flag, beacon_rate_count, beacon_end, beacon_unused}
 use Rattle.decode.specs.declared.kind.Kind.{Kind}
 use Rattle.decode.specs.declared.kind.Kind.TheVariants.{Rate, Beacon}
 use Rattle.decode.specs.Limits.{largest_limhi}
@@ -73,10 +72,10 @@ rate_end xs e =
     and_right (codes_good rate_count xs && eqb (get_or xs gap_at 0) 0 && eqb (flag_byte xs % junk_flag) 0 && leb (at16 xs limhi_at) largest_limhi)
     (end_good xs) e
 
-pub beacon_codes : (xs : List ℕ) → beacon_good xs ≡ true → codes_good beacon_count xs ≡ true
+pub beacon_codes : (xs : List ℕ) → beacon_good xs ≡ true → codes_good beacon_rate_count xs ≡ true
 unfolding beacon_good
 beacon_codes xs e = and_left _ _ (and_left _ _ e)
 
 pub beacon_end_lem : (xs : List ℕ) → beacon_good xs ≡ true → end_good xs ≡ true
 unfolding beacon_good
-beacon_end_lem xs e = and_right (codes_good beacon_count xs && zeros_good beacon_end beacon_unused xs) (end_good xs) e
+beacon_end_lem xs e = and_right (codes_good beacon_rate_count xs && zeros_good beacon_end beacon_unused xs) (end_good xs) e

@@ -1,12 +1,12 @@
 -- The values that a packet is written from (document 01, "Packets" and "State limits"). Assumes nothing.
 use Rattle.std.specs.Prelude.{ℕ, ◌≤◌, ◌<◌, ◌≡◌, true, List, length}
 use Rattle.wire.specs.Lists.{EachBelow, all}
-use Rattle.boxes.specs.Boxes.{box_count, beacon_count, total_count}
+use Rattle.boxes.specs.Boxes.{box_count, total_count}
 use Rattle.settings.specs.declared.Settings.{Settings}
 use Rattle.sample_record.specs.Record.{record_good}
 use Rattle.packet.specs.declared.stamp.Stamp.{Stamp}
 use Rattle.rate_code.specs.Rate.{count_limit}
-use Rattle.packet.specs.Layout.{sequence_counts, record_count}
+use Rattle.packet.specs.Layout.{sequence_counts, record_count, beacon_rate_count}
 use Rattle.decode.specs.Limits.{largest_limhi}
 
 -- the sequence count has 14 bits, the time 32, the frame number 16; byte 269 goes to `marks`, the last edition or the last p;
@@ -34,7 +34,7 @@ pub record SampleValues (records : List ℕ) : Type 0 where
   pub records_fit : EachBelow 4294967296 records
   pub records_good_lem : all record_good records ≡ true
 
--- twelve beacons that have codes
-pub record BeaconValues (beacons : List ℕ) : Type 0 where
-  pub beacons_are : length beacons ≡ beacon_count
-  pub beacons_fit : EachBelow count_limit beacons
+-- fifteen rates of a beacon packet that have codes
+pub record BeaconValues (rates : List ℕ) : Type 0 where
+  pub rates_are : length rates ≡ beacon_rate_count
+  pub rates_fit : EachBelow count_limit rates

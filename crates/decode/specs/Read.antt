@@ -5,7 +5,6 @@ use Rattle.causes.specs.Causes.{no_header, packet_sum, body_fault}
 use Rattle.causes.specs.Checks.{Check, number_by}
 use Rattle.wire.specs.Bytes.{at16, at24, at32, total}
 use Rattle.wire.specs.Pieces.{table, each}
-use Rattle.boxes.specs.Boxes.{beacon_count}
 use Rattle.settings.specs.declared.Settings.{Settings}
 use Rattle.settings.specs.Settings.{settings_by}
 use Rattle.sample_record.specs.Record.{record_good}
@@ -13,7 +12,7 @@ use Rattle.rate_code.specs.Editions.{least_by, valid_by}
 use Rattle.packet.specs.Layout.{application_at, sequence_at, length_at, time_at, zero_at, body_at, sum_at, packet_bytes}
 use Rattle.packet.specs.Layout.{frame_at, mark_at, last_at}
 use Rattle.packet.specs.Layout.{secondary_flag, sequence_flags, sequence_counts, length_field}
-use Rattle.packet.specs.Layout.{code_bytes, record_bytes, rate_count, record_count, beacon_end, beacon_unused}
+use Rattle.packet.specs.Layout.{code_bytes, record_bytes, rate_count, record_count, beacon_rate_count, beacon_end, beacon_unused}
 use Rattle.packet.specs.Layout.{gap_at, hvstep_at, flags_at, limhi_at, table_sum_at, junk_flag}
 use Rattle.packet.specs.Packet.{rate_application, sample_application, beacon_application, application_of_sample}
 use Rattle.decode.specs.Limits.{last_sample, largest_limhi, last_mark}
@@ -132,9 +131,9 @@ unfoldable pub sample_good : List ℕ → Bool
 sample_good xs =
     eqb (application_of xs) (application_of_sample (mark_of xs)) && eqb (last_of xs) 0 && records_good record_count xs
 
--- bytes 35 to 266 have no use
+-- bytes 41 to 266 have no use
 unfoldable pub beacon_good : List ℕ → Bool
-beacon_good xs = codes_good beacon_count xs && zeros_good beacon_end beacon_unused xs && end_good xs
+beacon_good xs = codes_good beacon_rate_count xs && zeros_good beacon_end beacon_unused xs && end_good xs
 
 unfoldable pub body_good : Option Kind → List ℕ → Bool
 body_good (Some Rate) xs = rate_good xs

@@ -10,7 +10,7 @@ ghost use Rattle.decode.specs.Read.{end_good, rate_good, sample_good, beacon_goo
 use crate::fields::application;
 use crate::kind::{Kind, kind_of};
 use crate::limits::{LARGEST_LIMHI, LAST_MARK};
-use boxes::{BEACONS, LAST_BOX, OUT_OF_BOUNDS_BOX};
+use boxes::{LAST_BOX, OUT_OF_BOUNDS_BOX};
 use causes::{Cause, check};
 use packet::applications::of_sample;
 use packet::layout;
@@ -141,7 +141,7 @@ fn sample_good(packet: &[u8; PACKET_BYTES]) -> bool
 fn beacon_good(packet: &[u8; PACKET_BYTES]) -> bool
     ensures { result ≡ beacon_good packet.now }
 {
-    codes_good(packet, BEACONS)
+    codes_good(packet, layout::BEACON_RATES)
         & zeros_good(packet, layout::BEACON_END, layout::BEACON_UNUSED)
         & end_good(packet)
 }

@@ -1,28 +1,36 @@
 -- The ground reads every packet that a close writes, and what the checks of a close passed puts their values in range.
 -- Assumes nothing.
-use Rattle.std.proofs.Common.{◌≡◌, refl, sym, ap, ap₂, ◌∙◌, true, List, ◌++◌, ℕ, zero, suc, ◌+◌, ◌*◌, ◌≤◌, ◌<◌, arith, leb-true}
-use Rattle.std.proofs.Common.{eq-eqb, length, take, take-add, take_all}
-use Rattle.wire.specs.Bytes.{words}
-use Rattle.wire.specs.Lists.{all}
-use Rattle.wire.proofs.Lists.{each_part, all_part}
+use Rattle.std.proofs.Common.{◌≡◌, refl, sym, ap, ap₂, ◌∙◌, true, List, [], ◌∷◌, ◌++◌, ℕ, zero, suc, ◌+◌, ◌*◌, ◌≤◌, ◌<◌, arith, leb-true}
+use Rattle.std.proofs.Common.{eq-eqb, get_or, get_or-append-add, length, length-append, take, take-add, take_all}
+use Rattle.wire.specs.Bytes.{at16, words, zeros}
+use Rattle.wire.specs.Lists.{all, EachBelow}
+use Rattle.wire.proofs.Lists.{each_part, each_append, all_part}
 use Rattle.wire.proofs.Pieces.{words_append}
 use Rattle.capacity.specs.Capacity.{numbers_of}
 use Rattle.capacity.specs.declared.Capacity.{Capacity}
 use Rattle.capacity.specs.declared.Capacity.TheVariants.{Slots704}
 use Rattle.capacity.proofs.NumberLaws.{slots_in_packets}
 use Rattle.sample_record.specs.Record.{record_good}
+use Rattle.rate_code.specs.Rate.{count_limit}
+use Rattle.rate_code.specs.Second.{second_code}
 use Rattle.rate_code.specs.Editions.{second_mark}
-use Rattle.packet.specs.Packet.{stamp_of}
+use Rattle.packet.specs.Layout.{body_at, code_bytes, beacon_unused}
+use Rattle.packet.specs.Packet.{stamp_of, beacon_application, beacon_body, beacon_packet}
+use Rattle.packet.proofs.Written.{length_beacon_body}
 use Rattle.packet.specs.TableSum.{table_sum}
 use Rattle.decode.specs.Limits.{last_sample, largest_limhi, last_mark}
-use Rattle.decode.specs.Ranges.{StampFits, SampleValues}
+use Rattle.decode.specs.Ranges.{StampFits, SampleValues, BeaconValues}
+use Rattle.decode.proofs.Back.{code_back}
 use Rattle.decode.proofs.Accepted.{stamp_fits}
+use Rattle.samples.specs.Samples.{filled}
 use Rattle.ground.specs.Ground.{read_of, records_of}
 use Rattle.ground.proofs.Back.{rate_back, sample_back, beacon_back}
 use Rattle.state.specs.Limits.{within_limits}
+use Rattle.state.specs.Interval.{interval_within}
 use Rattle.state.proofs.LimitLaws.{state_limits}
-use Rattle.output.specs.Output.{written}
-use Rattle.output.proofs.OutputLaws.{totals_fit, boxes_fit, beacons_fit, Lengths, slots_in, slots_length}
+use Rattle.output.specs.Ended.{summary_of}
+use Rattle.output.specs.Output.{beacon_rates_in, written, packet_at, beacon_place}
+use Rattle.output.proofs.OutputLaws.{totals_fit, boxes_fit, beacons_fit, samples_fit, Lengths, slots_in, slots_length}
 use Rattle.output.proofs.OutputLaws.{written_length, rate_placed, sample_placed, beacon_placed}
 use Rattle.processor.specs.Close.{close_number, close_done}
 use Rattle.processor.proofs.CallLaws.{close_accepted}
@@ -34,14 +42,21 @@ use Rattle.downlink.specs.Downlink.{records_read, ReceivedWhole, Fits, PacketsRe
 -- ---- any packets whose values are in range
 
 module _ (e : Sent) (f : Fits e) where
+  -- what the beacon packet carries behind the beacons
+  abbrev sample_counts : List ℕ
+  sample_counts = e.ended.summary.eligible ∷ e.ended.summary.replaced ∷ e.ended.summary.dropped ∷ []
+
   stamped : (p : ℕ) (bitmap : ℕ) → p ≤ bitmap → StampFits bitmap (stamp_of e.ended.frame e.ended.time p)
   stamped p bitmap h = stamp_fits e.ended.frame e.ended.time p bitmap f.frame_fits f.time_fits h
+
+  beacons_are : length e.ended.summary.counts.beacons ≡ 12
+  beacons_are = omega (arith, length-append e.ended.summary.counts.beacons sample_counts, f.beacons_fit.rates_are)
 
   lengths : Lengths e.ended e.span
   lengths = record {
     totals_are = f.rates_fit.totals_are;
     boxes_are = f.rates_fit.boxes_are;
-    beacons_are = f.beacons_fit.beacons_are;
+    beacons_are = beacons_are;
     slots_enough = f.slots_enough;
   }
 
@@ -69,6 +84,20 @@ module _ (e : Sent) (f : Fits e) where
       ∙ words_append (take (64 * n) e.ended.slots) (slots_in e.ended e.span lengths n)
       ∙ ap words (sym (take-add (64 * n) 64 e.ended.slots) ∙ ap (λ (k : ℕ). take k e.ended.slots) more)
 
+  -- the codes behind those of the beacons
+  sample_code : (i : ℕ) → i < 3
+      → at16 (packet_at (written e.ended e.span) (beacon_place e.span)) (35 + 2 * i) ≡ second_code (get_or sample_counts i 0)
+  unfolding beacon_packet
+  sample_code i h =
+      let rates = beacon_rates_in e.ended.summary in
+      let l = f.beacons_fit.rates_are in
+      let at : 35 + 2 * i ≡ body_at + code_bytes * (12 + i) = omega arith in
+      ap (λ (x : List ℕ). at16 x (35 + 2 * i)) (beacon_placed e.ended e.span lengths)
+      ∙ ap (at16 _) at
+      ∙ code_back beacon_application (stamp_of e.ended.frame e.ended.time second_mark) (beacon_body second_mark rates)
+      (length_beacon_body second_mark rates l) second_mark rates (zeros beacon_unused) refl (12 + i) (omega (arith, l))
+      ∙ ap second_code (rw (← beacons_are) (get_or-append-add e.ended.summary.counts.beacons sample_counts i 0))
+
 pub packets_received : PacketsReceived
 packets_received e f =
     let l = lengths e f in
@@ -81,7 +110,10 @@ packets_received e f =
           ∙ (sample_back _ _ (stamped e f _ last_sample (p_fits e f i h)) (slots_in_range e f i h)).0;
       records = records_read_lem e f e.span.many (omega arith);
       beacons = ap read_of (beacon_placed e.ended e.span l)
-          ∙ (beacon_back _ e.ended.summary.counts.beacons second f.beacons_fit).0;
+          ∙ (beacon_back _ (beacon_rates_in e.ended.summary) second f.beacons_fit).0;
+      eligible_at = sample_code e f 0 (omega arith);
+      replaced_at = sample_code e f 1 (omega arith);
+      dropped_at = sample_code e f 2 (omega arith);
     }
 
 pub whole_received : (e : Sent) → Fits e → 64 * e.span.many ≡ length e.ended.slots → ReceivedWhole e (written e.ended e.span)
@@ -98,9 +130,28 @@ samples_read Slots704 = omega arith
 limhi_read : (c : Capacity) → (numbers_of c).limhi ≤ largest_limhi
 limhi_read Slots704 = omega arith
 
+three_below : {a b c : ℕ} → a < count_limit → b < count_limit → c < count_limit → EachBelow count_limit (a ∷ b ∷ c ∷ [])
+three_below x y z zero = x
+three_below x y z (suc zero) = y
+three_below x y z (suc (suc zero)) = z
+three_below x y z (suc (suc (suc k))) = omega arith
+
 sum_fits : (tables : List ℕ) → table_sum tables < 16777216
 unfolding table_sum
 sum_fits tables = omega arith
+
+-- the beacons and the samples' counts of an interval within its limits
+rates_fit_in : (w : World) {time : ℕ} → Typed (sent_in w time).ended
+    → interval_within (numbers_of w.state.capacity).slots w.state.interval ≡ true
+    → BeaconValues (beacon_rates_in (summary_of w.state w.buffers.slots))
+rates_fit_in w y h =
+    let i = w.state.interval in
+    let s = samples_fit _ i h (filled w.buffers.slots) in
+    let three = i.samples.eligible ∷ i.samples.slots.replaced ∷ (summary_of w.state w.buffers.slots).dropped ∷ [] in
+    record {
+      rates_are = length-append i.counts.beacons three ∙ omega (arith, y.beacons_are);
+      rates_fit = each_append count_limit i.counts.beacons three (beacons_fit _ i h) (three_below s.0 s.1 s.2);
+    }
 
 -- a state within its limits has values in range, where the slots are good
 pub world_fits : (w : World) (time : ℕ) → Typed (sent_in w time).ended → within_limits w.state ≡ true
@@ -121,7 +172,7 @@ world_fits w time y h ls good =
         hvstep_fits = y.hvstep_fits;
         sum_fits = sum_fits w.buffers.tables;
       };
-      beacons_fit = record { beacons_are = y.beacons_are; beacons_fit = beacons_fit _ i l.interval };
+      beacons_fit = rates_fit_in w y l.interval;
       samples_fit = omega (arith, samples_read c);
       slots_enough = omega (arith, ls, slots_in_packets c);
       slots_fit = y.slots_fit;

@@ -1,7 +1,7 @@
 -- What the ground reads of an interval that was closed aboard (demand 2; document 01, "Packets"). Assumes nothing.
-use Rattle.std.specs.Prelude.{ℕ, zero, suc, ◌+◌, ◌*◌, ◌≤◌, ◌<◌, ◌≡◌, true, List, [], ◌++◌, length, take}
+use Rattle.std.specs.Prelude.{ℕ, zero, suc, ◌+◌, ◌*◌, ◌≤◌, ◌<◌, ◌≡◌, true, List, [], ◌∷◌, ◌++◌, length, take}
 use Rattle.causes.specs.Causes.{carried_out}
-use Rattle.wire.specs.Bytes.{words}
+use Rattle.wire.specs.Bytes.{at16, words}
 use Rattle.wire.specs.Lists.{All, EachBelow, all}
 use Rattle.boxes.specs.Boxes.{box_count, beacon_count, total_count}
 use Rattle.capacity.specs.declared.Capacity.{Capacity}
@@ -9,6 +9,7 @@ use Rattle.capacity.specs.Capacity.{numbers_of}
 use Rattle.sample_record.specs.Record.{record_good}
 use Rattle.tables.specs.Tables.{table_bytes}
 use Rattle.load.specs.Staging.{staging_bytes}
+use Rattle.rate_code.specs.Second.{second_code}
 use Rattle.rate_code.specs.Editions.{second_mark}
 use Rattle.packet.specs.Packet.{stamp_of}
 use Rattle.decode.specs.Limits.{last_sample}
@@ -19,7 +20,7 @@ use Rattle.ground.specs.Theorems.{rate_read, sample_read, beacon_read}
 use Rattle.gatherer.specs.GatherTheorems.{ListingOf}
 use Rattle.state.specs.Limits.{within_limits}
 use Rattle.output.specs.Ended.{Ended}
-use Rattle.output.specs.Output.{span_bytes, written, packet_at, rate_place, sample_place, beacon_place}
+use Rattle.output.specs.Output.{span_bytes, beacon_rates_in, written, packet_at, rate_place, sample_place, beacon_place}
 use Rattle.processor.specs.Close.{close_span}
 use Rattle.tally.specs.Steps.{Done, after, Lawful, Each}
 use Rattle.tally.specs.World.{World, fresh_world}
@@ -50,9 +51,14 @@ pub record Received (e : Sent) (out : List ℕ) : Type 0 where
       → read_of (packet_at out (sample_place i)) ≡ sample_read (stamp_of e.ended.frame e.ended.time (e.span.first + i))
   -- the records of them all, joined, are the slots that they have
   pub records : records_read out e.span.many ≡ words (take (64 * e.span.many) e.ended.slots)
-  -- kind beacon: the beacons as least counts
+  -- kind beacon: the beacons, then eligible, replaced and dropped events as least counts
   pub beacons : read_of (packet_at out (beacon_place e.span))
-      ≡ beacon_read (stamp_of e.ended.frame e.ended.time second_mark) e.ended.summary.counts.beacons
+      ≡ beacon_read (stamp_of e.ended.frame e.ended.time second_mark)
+      (e.ended.summary.counts.beacons ++ e.ended.summary.eligible ∷ e.ended.summary.replaced ∷ e.ended.summary.dropped ∷ [])
+  -- "the beacon packet carries their codes at bytes 35-40" (document 02, Point 7)
+  pub eligible_at : at16 (packet_at out (beacon_place e.span)) 35 ≡ second_code e.ended.summary.eligible
+  pub replaced_at : at16 (packet_at out (beacon_place e.span)) 37 ≡ second_code e.ended.summary.replaced
+  pub dropped_at : at16 (packet_at out (beacon_place e.span)) 39 ≡ second_code e.ended.summary.dropped
 
 -- where there is a sample packet for each 64 slots: the records are all the slots
 pub record ReceivedWhole (e : Sent) (out : List ℕ) : Type 0 where
@@ -65,7 +71,7 @@ pub record Fits (e : Sent) : Type 0 where
   pub frame_fits : e.ended.frame < 65536
   pub time_fits : e.ended.time < 4294967296
   pub rates_fit : RateValues e.ended.totals e.ended.summary.counts.boxes e.ended.settings e.ended.sum
-  pub beacons_fit : BeaconValues e.ended.summary.counts.beacons
+  pub beacons_fit : BeaconValues (beacon_rates_in e.ended.summary)
   -- the ground takes each p
   pub samples_fit : e.span.first + e.span.many ≤ last_sample + 1
   pub slots_enough : 64 * e.span.many ≤ length e.ended.slots

@@ -24,7 +24,7 @@ endable s tables staging slots = within_limits s && end_lent s.capacity tables s
 
 -- refused, "the result's fields other than the state are zero"
 abbrev pub no_summary : Summary
-no_summary = record { taken = 0; counts = no_counts; filled = 0 }
+no_summary = record { taken = 0; counts = no_counts; filled = 0; eligible = 0; replaced = 0; dropped = 0 }
 
 -- "then waiting commands run in order; then counts and slots become zero and the frame number rises by one modulo 65,536"
 unfoldable pub state_ended : State → State

@@ -5,6 +5,7 @@ ghost use Rattle.std.specs.Prelude.{◌≡◌, true, length};
 ghost use Rattle.wire.specs.Bytes.{zeros};
 ghost use Rattle.tables.specs.Tables.{table_bytes};
 ghost use Rattle.load.specs.Staging.{staging_bytes};
+ghost use Rattle.state.specs.Limits.{within_limits};
 ghost use Rattle.output.specs.Ended.{summary_of};
 ghost use Rattle.end_interval.specs.End.{endable, state_ended, tables_ended};
 
@@ -25,12 +26,22 @@ pub fn endable(state: &State, slots: &[u32]) -> bool
 
 // What is returned of the interval.
 pub fn summary_of(state: &State, slots: &[u32]) -> Summary
+    requires { within_limits state.now ≡ true }
     ensures { result ≡ summary_of state.now slots.now }
 {
+    let filled = samples::at_close::filled(slots);
+    let eligible = state.interval.samples.eligible;
+    let replaced = state.interval.samples.slots.replaced;
+    let dropped = (eligible as usize)
+        .saturating_sub(filled)
+        .saturating_sub(replaced);
     Summary {
         taken: state.interval.taken,
         counts: state.interval.counts,
-        filled: samples::at_close::filled(slots),
+        filled,
+        eligible,
+        replaced: replaced as u32,
+        dropped: dropped as u32,
     }
 }
 

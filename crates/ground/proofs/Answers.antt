@@ -4,7 +4,7 @@ use Rattle.std.proofs.Common.{sym, ap, ◌∙◌, eqb-true, eq-eqb, ne_eqb, leb-
 use Rattle.std.proofs.lemmas.Bool.{eqb-false}
 use Rattle.wire.proofs.Lists.{and_left, decide}
 use Rattle.wire.specs.Bytes.{zeros}
-use Rattle.boxes.specs.Boxes.{beacon_count}
+use Rattle.packet.specs.Layout.{beacon_rate_count}
 use Rattle.rate_code.specs.Editions.{mark_number, mark_from}
 use Rattle.rate_code.proofs.EditionLaws.{mark_numbered}
 use Rattle.packet.specs.Layout.{body_at, body_bytes, packet_bytes, rate_count}
@@ -80,11 +80,11 @@ told_is : (xs : List ℕ) (k : Kind) → body_good (Some k) xs ≡ true
     ≡ contents (Some k) xs
 unfolding contents accepted
 told_is xs Rate e =
-    ap (λ (m : ℕ). accepted (Some Rate) xs m (rates_of rate_count xs) (settings_of xs) (sum_of xs) (zeros beacon_count) 0)
+    ap (λ (m : ℕ). accepted (Some Rate) xs m (rates_of rate_count xs) (settings_of xs) (sum_of xs) (zeros beacon_rate_count) 0)
     (mark_told xs (rate_end xs (accepted_rate xs e)))
 told_is xs Sample e = refl
 told_is xs Beacon e =
-    ap (λ (m : ℕ). accepted (Some Beacon) xs m (zeros rate_count) no_settings 0 (rates_of beacon_count xs) 0)
+    ap (λ (m : ℕ). accepted (Some Beacon) xs m (zeros rate_count) no_settings 0 (rates_of beacon_rate_count xs) 0)
     (mark_told xs (beacon_end_lem xs (accepted_beacon xs e)))
 
 -- and so what is read of it

@@ -3,7 +3,7 @@ use Rattle.std.specs.Prelude.{Option, Some, ◌≡◌, List, ◌++◌, ℕ, ◌<
 use Rattle.std.proofs.Common.{sym, ap, ◌∙◌, arith}
 use Rattle.causes.specs.Causes.{carried_out}
 use Rattle.wire.specs.Bytes.{words, zeros}
-use Rattle.boxes.specs.Boxes.{beacon_count}
+use Rattle.packet.specs.Layout.{beacon_rate_count}
 use Rattle.settings.specs.declared.Settings.{Settings}
 use Rattle.decode.specs.declared.kind.Kind.{Kind}
 use Rattle.decode.specs.declared.kind.Kind.TheVariants.{Rate, Sample, Beacon}
@@ -26,10 +26,10 @@ use Rattle.ground.proofs.Answers.{read_accepted, the_records}
 
 -- of a packet of any kind, its stamp
 accepted_back : (a : ℕ) (st : Stamp) (body : List ℕ) → length body ≡ body_bytes → a < secondary_flag → st.sequence < sequence_counts
-    → (k : Option Kind) (mark : ℕ) (rates : List ℕ) (s : Settings) (sum : ℕ) (beacons : List ℕ) (p : ℕ)
-    → accepted k (packet_of a st body) mark rates s sum beacons p ≡ stamp_read k a st mark rates s sum beacons p
+    → (k : Option Kind) (mark : ℕ) (rates : List ℕ) (s : Settings) (sum : ℕ) (beacon_rates : List ℕ) (p : ℕ)
+    → accepted k (packet_of a st body) mark rates s sum beacon_rates p ≡ stamp_read k a st mark rates s sum beacon_rates p
 unfolding accepted
-accepted_back a st body lb ha hq k mark rates s sum beacons p =
+accepted_back a st body lb ha hq k mark rates s sum beacon_rates p =
     let l : length (body ++ trailer st) ≡ inner_bytes = length_inner st body lb in
     λ i. record {
       number = carried_out;
@@ -42,7 +42,7 @@ accepted_back a st body lb ha hq k mark rates s sum beacons p =
       rates = rates;
       settings = s;
       sum = sum;
-      beacons = beacons;
+      beacon_rates = beacon_rates;
       p = p;
     }
 
@@ -58,8 +58,8 @@ rate_back st totals boxes s sum h v =
     let table-sum = kinds.table_sum_back st h totals boxes s sum v in
     let k = kinds.kind_back rate_application st B l (omega arith) (Some Rate) kinds.rate_kind in (
       read_accepted P (Some Rate) z k
-          ∙ (λ i. accepted (Some Rate) P (fields.mark_back rate_application st B l i) (rates i) (settings i) (table-sum i) (zeros beacon_count) 0)
-          ∙ accepted_back rate_application st B l (omega arith) h.sequence_fits (Some Rate) st.mark _ s sum (zeros beacon_count) 0,
+          ∙ (λ i. accepted (Some Rate) P (fields.mark_back rate_application st B l i) (rates i) (settings i) (table-sum i) (zeros beacon_rate_count) 0)
+          ∙ accepted_back rate_application st B l (omega arith) h.sequence_fits (Some Rate) st.mark _ s sum (zeros beacon_rate_count) 0,
       the_records P (Some Rate) z k,
     )
 
@@ -74,22 +74,22 @@ sample_back st records h v =
     let z = kinds.sample_number st h records v in
     let k = kinds.kind_back a st B l ha (Some Sample) (kinds.sample_kind st.mark h.mark_fits) in (
       read_accepted P (Some Sample) z k
-          ∙ ap (accepted (Some Sample) P 0 (zeros rate_count) no_settings 0 (zeros beacon_count)) (fields.mark_back a st B l)
-          ∙ accepted_back a st B l ha h.sequence_fits (Some Sample) 0 (zeros rate_count) no_settings 0 (zeros beacon_count) st.mark,
+          ∙ ap (accepted (Some Sample) P 0 (zeros rate_count) no_settings 0 (zeros beacon_rate_count)) (fields.mark_back a st B l)
+          ∙ accepted_back a st B l ha h.sequence_fits (Some Sample) 0 (zeros rate_count) no_settings 0 (zeros beacon_rate_count) st.mark,
       the_records P (Some Sample) z k ∙ fields.body_part a st B l,
     )
 
 pub beacon_back : BeaconBack
 unfolding contents beacon_packet
-beacon_back st beacons h v =
-    let B : List ℕ = beacon_body st.mark beacons in
+beacon_back st rates h v =
+    let B : List ℕ = beacon_body st.mark rates in
     let P : List ℕ = packet_of beacon_application st B in
-    let l = kinds.beacon_length st h beacons v in
-    let z = kinds.beacon_number st h beacons v in
-    let rates = (kinds.beacon_codes st h beacons v).1 in
+    let l = kinds.beacon_length st h rates v in
+    let z = kinds.beacon_number st h rates v in
+    let least = (kinds.beacon_codes st h rates v).1 in
     let k = kinds.kind_back beacon_application st B l (omega arith) (Some Beacon) kinds.beacon_kind in (
       read_accepted P (Some Beacon) z k
-          ∙ (λ i. accepted (Some Beacon) P (fields.mark_back beacon_application st B l i) (zeros rate_count) no_settings 0 (rates i) 0)
+          ∙ (λ i. accepted (Some Beacon) P (fields.mark_back beacon_application st B l i) (zeros rate_count) no_settings 0 (least i) 0)
           ∙ accepted_back beacon_application st B l (omega arith) h.sequence_fits (Some Beacon) st.mark (zeros rate_count) no_settings 0 _ 0,
       the_records P (Some Beacon) z k,
     )
@@ -110,15 +110,15 @@ archive_rate_back st totals boxes s sum h v =
     let e : st.mark ≡ 0 = omega (arith, h.mark_fits) in
     ap (λ (m : ℕ). read_of (packet_of rate_application st (rate_body m totals boxes s sum))) (sym e)
     ∙ (rate_back st totals boxes s sum (unmarked_fits st h) v).0
-    ∙ ap (λ (m : ℕ). stamp_read (Some Rate) rate_application st m (least_counts m (totals ++ boxes)) s sum (zeros beacon_count) 0) e
+    ∙ ap (λ (m : ℕ). stamp_read (Some Rate) rate_application st m (least_counts m (totals ++ boxes)) s sum (zeros beacon_rate_count) 0) e
 
 pub archive_beacon_back : ArchiveBeaconBack
 unfolding beacon_packet codes
-archive_beacon_back st beacons h v =
+archive_beacon_back st rates h v =
     let e : st.mark ≡ 0 = omega (arith, h.mark_fits) in
-    ap (λ (m : ℕ). read_of (packet_of beacon_application st (beacon_body m beacons))) (sym e)
-    ∙ (beacon_back st beacons (unmarked_fits st h) v).0
-    ∙ ap (λ (m : ℕ). stamp_read (Some Beacon) beacon_application st m (zeros rate_count) no_settings 0 (least_counts m beacons) 0) e
+    ap (λ (m : ℕ). read_of (packet_of beacon_application st (beacon_body m rates))) (sym e)
+    ∙ (beacon_back st rates (unmarked_fits st h) v).0
+    ∙ ap (λ (m : ℕ). stamp_read (Some Beacon) beacon_application st m (zeros rate_count) no_settings 0 (least_counts m rates) 0) e
 
 pub archive_codes : ArchiveCodes
 unfolding codes_good rates_of

@@ -60,8 +60,8 @@ sample_damage_refused st records ys h v d =
 
 pub beacon_damage_refused : BeaconDamageRefused
 unfolding beacon_packet
-beacon_damage_refused st beacons ys h v d =
+beacon_damage_refused st rates ys h v d =
     let Z = each_zeros 256 beacon_unused (omega arith) in
-    let B = each_append 256 (codes st.mark beacons) (zeros beacon_unused) (bytes_codes st.mark beacons v.beacons_fit) Z in
-    packet_damage beacon_application last_mark st (beacon_body st.mark beacons) ys (omega arith) (omega arith)
-    (length_beacon_body st.mark beacons v.beacons_are) h B d
+    let B = each_append 256 (codes st.mark rates) (zeros beacon_unused) (bytes_codes st.mark rates v.rates_fit) Z in
+    packet_damage beacon_application last_mark st (beacon_body st.mark rates) ys (omega arith) (omega arith)
+    (length_beacon_body st.mark rates v.rates_are) h B d

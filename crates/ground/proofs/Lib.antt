@@ -1,4 +1,5 @@
 pub mod Answers
 pub mod Back
+pub mod Archive
 pub mod Damage
 pub mod Numbers

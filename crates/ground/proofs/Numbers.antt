@@ -1,19 +1,22 @@
 -- The reader's number is the lowest that applies, and 11 for every application number but those of the three kinds. Assumes nothing.
-use Rattle.std.specs.Prelude.{Option, Some, None, ◌≡◌, refl, ◌⊎◌, true, ◌&&◌, List, ℕ, ◌≤◌, leb, eqb, length}
+use Rattle.std.specs.Prelude.{Option, Some, None, ◌≡◌, refl, ◌⊎◌, Bool, true, false, ◌&&◌, List, ℕ, ◌+◌, ◌*◌, ◌≤◌, ◌<◌, leb, eqb, length}
 use Rattle.std.proofs.Common.{sym, ap, subst, ◌∙◌, inl, inr, arith, ne_eqb, leb-true}
 use Rattle.std.proofs.Math.Bool.{false≢true}
 use Rattle.causes.specs.Causes.{no_header}
 use Rattle.causes.proofs.CheckLaws.{lowest}
 use Rattle.wire.proofs.Lists.{and_false, and_left, and_right, decide}
+use Rattle.wire.specs.Bytes.{at16}
+use Rattle.wire.proofs.Pieces.{each_at}
+use Rattle.rate_code.specs.Editions.{valid_by}
 use Rattle.packet.specs.Layout.{packet_bytes}
 use Rattle.packet.specs.Packet.{sample_application, application_of_sample}
 use Rattle.decode.specs.declared.kind.Kind.{Kind}
 use Rattle.decode.specs.declared.kind.Kind.TheVariants.{Rate, Sample, Beacon}
 use Rattle.decode.specs.Limits.{last_sample}
-use Rattle.decode.specs.Read.{application_of, kind_of, is_kind, fields_good, header_good, body_good, read_checks, read_number}
-use Rattle.decode.proofs.Reading.{passed, accepted_body, accepted_rate, accepted_beacon, rate_end, beacon_end_lem}
+use Rattle.decode.specs.Read.{application_of, kind_of, is_kind, fields_good, header_good, codes_good, body_good, read_checks, read_number}
+use Rattle.decode.proofs.Reading.{passed, accepted_body, accepted_rate, accepted_beacon, rate_codes, rate_end, beacon_codes, beacon_end_lem}
 use Rattle.ground.specs.Ground.{Packet, refused, accepted, contents}
-use Rattle.ground.specs.Theorems.{LowestRead, TakenAs, OtherNumber, ListingNotRead}
+use Rattle.ground.specs.Theorems.{LowestRead, TakenAs, TakenCodes, OtherNumber, ListingNotRead}
 use Rattle.ground.proofs.Answers.{read_accepted, read_refused, no_records, number_read}
 
 pub lowest_read : LowestRead
@@ -39,6 +42,39 @@ taken_as xs e =
     let k : Option Kind = kind_of (application_of xs) in
     subst (λ (p : Packet). ((p.kind ≡ Some Rate) ⊎ (p.kind ≡ Some Sample) ⊎ (p.kind ≡ Some Beacon)) × (p.mark ≤ 2))
     (sym (read_accepted xs k z refl)) (kind_taken xs k (header_kind xs (passed xs z).0) (accepted_body xs k z refl))
+
+-- the codes of a body without fault, by its kind
+abbrev is_rate : Option Kind → Bool
+is_rate (Some Rate) = true
+is_rate (Some Sample) = false
+is_rate (Some Beacon) = false
+is_rate None = false
+
+abbrev is_beacon : Option Kind → Bool
+is_beacon (Some Rate) = false
+is_beacon (Some Sample) = false
+is_beacon (Some Beacon) = true
+is_beacon None = false
+
+abbrev CodesTaken : List ℕ → (i : ℕ) → Packet → Type 0
+CodesTaken xs i p =
+    (p.kind ≡ Some Rate → i < 124 → valid_by p.mark (at16 xs (11 + 2 * i)) ≡ true)
+    × (p.kind ≡ Some Beacon → i < 15 → valid_by p.mark (at16 xs (11 + 2 * i)) ≡ true)
+
+kind_codes : (xs : List ℕ) (k : Option Kind) (i : ℕ) → body_good k xs ≡ true → CodesTaken xs i (contents k xs)
+unfolding contents accepted refused codes_good
+kind_codes xs (Some Rate) i g =
+    (λ q h. each_at _ 124 i h (rate_codes xs (accepted_rate xs g)), λ q. absurd (false≢true (ap is_beacon q)))
+kind_codes xs (Some Sample) i g = (λ q. absurd (false≢true (ap is_rate q)), λ q. absurd (false≢true (ap is_beacon q)))
+kind_codes xs (Some Beacon) i g =
+    (λ q. absurd (false≢true (ap is_rate q)), λ q h. each_at _ 15 i h (beacon_codes xs (accepted_beacon xs g)))
+kind_codes xs None i g = (λ q. absurd (false≢true (ap is_rate q)), λ q. absurd (false≢true (ap is_beacon q)))
+
+pub taken_codes : TakenCodes
+taken_codes xs i e =
+    let z : read_number xs ≡ 0 = sym (number_read xs) ∙ e in
+    let k : Option Kind = kind_of (application_of xs) in
+    subst (CodesTaken xs i) (sym (read_accepted xs k z refl)) (kind_codes xs k i (accepted_body xs k z refl))
 
 -- no kind has the number
 no_kind : (a : ℕ) → (a ≡ 605 → ⊥) → (a ≡ 624 → ⊥) → (606 ≤ a → a ≤ 616 → ⊥) → kind_of a ≡ None

@@ -3,12 +3,11 @@ use Rattle.std.specs.Prelude.{ℕ, Bool, true, false, cond, ◌&&◌, Option, So
 use Rattle.causes.specs.declared.Cause.{Cause}
 use Rattle.causes.specs.Causes.{carried_out, cause_number}
 use Rattle.wire.specs.Bytes.{zeros}
-use Rattle.boxes.specs.Boxes.{beacon_count}
 use Rattle.settings.specs.declared.Settings.{Settings}
 use Rattle.rate_code.specs.Editions.{mark_number, mark_from}
 use Rattle.decode.specs.declared.kind.Kind.{Kind}
 use Rattle.decode.specs.declared.kind.Kind.TheVariants.{Rate, Sample, Beacon}
-use Rattle.packet.specs.Layout.{body_at, body_bytes, rate_count}
+use Rattle.packet.specs.Layout.{body_at, body_bytes, rate_count, beacon_rate_count}
 use Rattle.decode.specs.Read.{application_of, sequence_of, time_of, frame_of, mark_of, kind_of, rates_of, settings_of, sum_of, read_number}
 use Rattle.ground.specs.declared.Packet as taken
 use Rattle.ground.specs.declared.Contents as own
@@ -30,7 +29,8 @@ pub record Packet : Type 0 where
   pub settings : Settings
   -- the sum of all table words modulo 2^24
   pub sum : ℕ
-  pub beacons : List ℕ
+  -- the least counts of twelve beacons, then of eligible, replaced and dropped events (document 02, Point 7)
+  pub beacon_rates : List ℕ
   -- which of the sample packets
   pub p : ℕ
 
@@ -52,13 +52,13 @@ refused n =
       rates = zeros rate_count;
       settings = no_settings;
       sum = 0;
-      beacons = zeros beacon_count;
+      beacon_rates = zeros beacon_rate_count;
       p = 0;
     }
 
 -- an accepted one: "The reader returns kind, header and frame number", with what its kind has
 unfoldable pub accepted : Option Kind → List ℕ → (mark : ℕ) → List ℕ → Settings → ℕ → List ℕ → ℕ → Packet
-accepted kind xs mark rates settings sum beacons p =
+accepted kind xs mark rates settings sum beacon_rates p =
     record {
       number = carried_out;
       kind = kind;
@@ -70,16 +70,16 @@ accepted kind xs mark rates settings sum beacons p =
       rates = rates;
       settings = settings;
       sum = sum;
-      beacons = beacons;
+      beacon_rates = beacon_rates;
       p = p;
     }
 
 -- ".. with a rate packet's rates, settings and table sum, a beacon's rates, or p", and the mark of rates (document 02, Point 5);
 -- what a kind has not is zero
 unfoldable pub contents : Option Kind → List ℕ → Packet
-contents (Some Rate) xs = accepted (Some Rate) xs (mark_of xs) (rates_of rate_count xs) (settings_of xs) (sum_of xs) (zeros beacon_count) 0
-contents (Some Sample) xs = accepted (Some Sample) xs 0 (zeros rate_count) no_settings 0 (zeros beacon_count) (mark_of xs)
-contents (Some Beacon) xs = accepted (Some Beacon) xs (mark_of xs) (zeros rate_count) no_settings 0 (rates_of beacon_count xs) 0
+contents (Some Rate) xs = accepted (Some Rate) xs (mark_of xs) (rates_of rate_count xs) (settings_of xs) (sum_of xs) (zeros beacon_rate_count) 0
+contents (Some Sample) xs = accepted (Some Sample) xs 0 (zeros rate_count) no_settings 0 (zeros beacon_rate_count) (mark_of xs)
+contents (Some Beacon) xs = accepted (Some Beacon) xs (mark_of xs) (zeros rate_count) no_settings 0 (rates_of beacon_rate_count xs) 0
 contents None xs = refused carried_out
 
 -- what `read` answers
@@ -90,7 +90,7 @@ read_of xs = cond (eqb (read_number xs) carried_out) (contents (kind_of (applica
 abbrev pub contents_of : Kind → List ℕ → own.Contents
 contents_of Rate xs = of_kind.Rate (mark_from (mark_of xs)) (rates_of rate_count xs) (settings_of xs) (sum_of xs)
 contents_of Sample xs = of_kind.Sample (mark_of xs)
-contents_of Beacon xs = of_kind.Beacon (mark_from (mark_of xs)) (rates_of beacon_count xs)
+contents_of Beacon xs = of_kind.Beacon (mark_from (mark_of xs)) (rates_of beacon_rate_count xs)
 
 -- what `read` hands back, as that record
 abbrev pub told_of : taken.Packet → own.Contents → Packet
@@ -105,7 +105,7 @@ told_of h (of_kind.Rate mark rates settings sum) = record {
   rates = rates;
   settings = settings;
   sum = sum;
-  beacons = zeros beacon_count;
+  beacon_rates = zeros beacon_rate_count;
   p = 0;
 }
 told_of h (of_kind.Sample p) = record {
@@ -119,10 +119,10 @@ told_of h (of_kind.Sample p) = record {
   rates = zeros rate_count;
   settings = no_settings;
   sum = 0;
-  beacons = zeros beacon_count;
+  beacon_rates = zeros beacon_rate_count;
   p = p;
 }
-told_of h (of_kind.Beacon mark beacons) = record {
+told_of h (of_kind.Beacon mark beacon_rates) = record {
   number = carried_out;
   kind = Some Beacon;
   application = h.application;
@@ -133,7 +133,7 @@ told_of h (of_kind.Beacon mark beacons) = record {
   rates = zeros rate_count;
   settings = no_settings;
   sum = 0;
-  beacons = beacons;
+  beacon_rates = beacon_rates;
   p = 0;
 }
 

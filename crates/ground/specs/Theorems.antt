@@ -1,22 +1,21 @@
 -- What is proved of the packets and their reader together. `read_of` and `records_of` are what the reader's two calls answer,
 -- `rate_packet`, `sample_packet` and `beacon_packet` what the three writers write, by their contracts. Assumes nothing.
-use Rattle.std.specs.Prelude.{ℕ, ◌≤◌, ◌≡◌, ◌⊎◌, true, Option, Some, List, [], ◌++◌, map, length}
+use Rattle.std.specs.Prelude.{ℕ, ◌+◌, ◌*◌, ◌≤◌, ◌<◌, ◌≡◌, ◌⊎◌, true, ◌&&◌, Option, Some, List, [], ◌∷◌, ◌++◌, map, length}
 use Rattle.causes.specs.Causes.{carried_out, no_header, packet_sum}
 use Rattle.causes.specs.Checks.{Lowest}
-use Rattle.wire.specs.Bytes.{be16, words, zeros}
+use Rattle.wire.specs.Bytes.{at16, be16, words, zeros}
 use Rattle.wire.specs.Lists.{EachBelow}
 use Rattle.wire.specs.Pieces.{runs, table, each}
-use Rattle.boxes.specs.Boxes.{beacon_count}
 use Rattle.settings.specs.declared.Settings.{Settings}
 use Rattle.decode.specs.declared.kind.Kind.{Kind}
 use Rattle.decode.specs.declared.kind.Kind.TheVariants.{Rate, Sample, Beacon}
 use Rattle.packet.specs.declared.stamp.Stamp.{Stamp}
 use Rattle.rate_code.specs.Rate.{rate_code, least_count, code_valid}
-use Rattle.rate_code.specs.Editions.{code_by, least_by}
-use Rattle.packet.specs.Layout.{packet_bytes, rate_count, beacon_unused}
+use Rattle.rate_code.specs.Editions.{code_by, least_by, valid_by}
+use Rattle.packet.specs.Layout.{packet_bytes, rate_count, beacon_rate_count, beacon_unused}
 use Rattle.packet.specs.Packet.{rate_application, beacon_application, application_of_sample, packet_of, settings_bytes}
 use Rattle.packet.specs.Packet.{rate_packet, sample_packet, beacon_packet}
-use Rattle.decode.specs.Read.{application_of, mark_of, code_at, rates_of, codes_good, sum_good, read_checks}
+use Rattle.decode.specs.Read.{application_of, mark_of, code_at, rates_of, codes_good, zeros_good, end_good, beacon_good, sum_good, read_checks}
 use Rattle.decode.specs.Damage.{OneByteOff}
 use Rattle.decode.specs.Limits.{last_sample, last_mark}
 use Rattle.decode.specs.Ranges.{StampFits, RateValues, SampleValues, BeaconValues}
@@ -29,8 +28,8 @@ abbrev pub least_counts : (mark : ℕ) → List ℕ → List ℕ
 least_counts mark counts = map (λ n. least_by mark (code_by mark n)) counts
 
 -- every packet gives back its kind and application number and what it was stamped with, beside what its kind has
-abbrev pub stamp_read : Option Kind → (application : ℕ) → Stamp → (mark : ℕ) (rates : List ℕ) → Settings → (sum : ℕ) → (beacons : List ℕ) → (p : ℕ) → Packet
-stamp_read kind application stamp mark rates s sum beacons p =
+abbrev pub stamp_read : Option Kind → (application : ℕ) → Stamp → (mark : ℕ) (rates : List ℕ) → Settings → (sum : ℕ) → (beacon_rates : List ℕ) → (p : ℕ) → Packet
+stamp_read kind application stamp mark rates s sum beacon_rates p =
     record {
       number = carried_out;
       kind = kind;
@@ -42,7 +41,7 @@ stamp_read kind application stamp mark rates s sum beacons p =
       rates = rates;
       settings = s;
       sum = sum;
-      beacons = beacons;
+      beacon_rates = beacon_rates;
       p = p;
     }
 
@@ -50,7 +49,7 @@ stamp_read kind application stamp mark rates s sum beacons p =
 -- whose mark is 0, those of the first edition
 abbrev pub rate_read : Stamp → (totals boxes : List ℕ) → Settings → (sum : ℕ) → Packet
 rate_read stamp totals boxes s sum =
-    stamp_read (Some Rate) rate_application stamp stamp.mark (least_counts stamp.mark (totals ++ boxes)) s sum (zeros beacon_count) 0
+    stamp_read (Some Rate) rate_application stamp stamp.mark (least_counts stamp.mark (totals ++ boxes)) s sum (zeros beacon_rate_count) 0
 
 abbrev pub RateBack : Type 0
 RateBack =
@@ -61,7 +60,7 @@ RateBack =
 -- a sample packet gives back p, and exactly the record bytes
 abbrev pub sample_read : Stamp → Packet
 sample_read stamp =
-    stamp_read (Some Sample) (application_of_sample stamp.mark) stamp 0 (zeros rate_count) no_settings 0 (zeros beacon_count) stamp.mark
+    stamp_read (Some Sample) (application_of_sample stamp.mark) stamp 0 (zeros rate_count) no_settings 0 (zeros beacon_rate_count) stamp.mark
 
 abbrev pub SampleBack : Type 0
 SampleBack =
@@ -69,16 +68,16 @@ SampleBack =
     → (read_of (sample_packet stamp records) ≡ sample_read stamp)
     × (records_of (sample_packet stamp records) ≡ words records)
 
--- a beacon packet of either edition gives back its mark, and the beacons as least counts
-abbrev pub beacon_read : Stamp → (beacons : List ℕ) → Packet
-beacon_read stamp beacons =
-    stamp_read (Some Beacon) beacon_application stamp stamp.mark (zeros rate_count) no_settings 0 (least_counts stamp.mark beacons) 0
+-- a beacon packet of either edition gives back its mark, and its fifteen rates as least counts
+abbrev pub beacon_read : Stamp → (rates : List ℕ) → Packet
+beacon_read stamp rates =
+    stamp_read (Some Beacon) beacon_application stamp stamp.mark (zeros rate_count) no_settings 0 (least_counts stamp.mark rates) 0
 
 abbrev pub BeaconBack : Type 0
 BeaconBack =
-    (stamp : Stamp) (beacons : List ℕ) → StampFits last_mark stamp → BeaconValues beacons
-    → (read_of (beacon_packet stamp beacons) ≡ beacon_read stamp beacons)
-    × (records_of (beacon_packet stamp beacons) ≡ [])
+    (stamp : Stamp) (rates : List ℕ) → StampFits last_mark stamp → BeaconValues rates
+    → (read_of (beacon_packet stamp rates) ≡ beacon_read stamp rates)
+    × (records_of (beacon_packet stamp rates) ≡ [])
 
 -- ---- the archive
 
@@ -94,19 +93,26 @@ abbrev pub ArchiveRateBack : Type 0
 ArchiveRateBack =
     (stamp : Stamp) (totals boxes : List ℕ) (s : Settings) (sum : ℕ) → StampFits 0 stamp → RateValues totals boxes s sum
     → read_of (packet_of rate_application stamp (first_codes totals ++ first_codes boxes ++ settings_bytes s sum))
-    ≡ stamp_read (Some Rate) rate_application stamp 0 (first_counts (totals ++ boxes)) s sum (zeros beacon_count) 0
+    ≡ stamp_read (Some Rate) rate_application stamp 0 (first_counts (totals ++ boxes)) s sum (zeros beacon_rate_count) 0
 
 abbrev pub ArchiveBeaconBack : Type 0
 ArchiveBeaconBack =
-    (stamp : Stamp) (beacons : List ℕ) → StampFits 0 stamp → BeaconValues beacons
-    → read_of (packet_of beacon_application stamp (first_codes beacons ++ zeros beacon_unused))
-    ≡ stamp_read (Some Beacon) beacon_application stamp 0 (zeros rate_count) no_settings 0 (first_counts beacons) 0
+    (stamp : Stamp) (rates : List ℕ) → StampFits 0 stamp → BeaconValues rates
+    → read_of (packet_of beacon_application stamp (first_codes rates ++ zeros beacon_unused))
+    ≡ stamp_read (Some Beacon) beacon_application stamp 0 (zeros rate_count) no_settings 0 (first_counts rates) 0
 
 -- of any bytes with mark 0, whatever else they are, codes are judged and read by the first edition, as they were before the second
 abbrev pub ArchiveCodes : Type 0
 ArchiveCodes =
     (n : ℕ) (xs : List ℕ) → mark_of xs ≡ 0
     → (codes_good n xs ≡ each n (λ i. code_valid (code_at xs i))) × (rates_of n xs ≡ table n (λ i. least_count (code_at xs i)))
+
+-- of any bytes with zeros "at bytes 35-40" (document 02, Point 7), as beacon packets of the archive have them: judged as before these had
+-- a use, by twelve codes and zeros from 35 on, and read as the twelve rates and three of 0
+abbrev pub ArchiveBeacons : Type 0
+ArchiveBeacons =
+    (xs : List ℕ) → zeros_good 35 6 xs ≡ true
+    → (beacon_good xs ≡ (codes_good 12 xs && zeros_good 35 232 xs && end_good xs)) × (rates_of 15 xs ≡ rates_of 12 xs ++ 0 ∷ 0 ∷ 0 ∷ [])
 
 -- ---- one damaged byte
 
@@ -132,8 +138,8 @@ SampleDamageRefused =
 
 abbrev pub BeaconDamageRefused : Type 0
 BeaconDamageRefused =
-    (stamp : Stamp) (beacons ys : List ℕ) → StampFits last_mark stamp → BeaconValues beacons
-    → OneByteOff (beacon_packet stamp beacons) ys → Refused ys
+    (stamp : Stamp) (rates ys : List ℕ) → StampFits last_mark stamp → BeaconValues rates
+    → OneByteOff (beacon_packet stamp rates) ys → Refused ys
 
 -- ---- the number
 
@@ -146,6 +152,14 @@ abbrev pub TakenAs : Type 0
 TakenAs =
     (xs : List ℕ) → (read_of xs).number ≡ carried_out
     → (((read_of xs).kind ≡ Some Rate) ⊎ ((read_of xs).kind ≡ Some Sample) ⊎ ((read_of xs).kind ≡ Some Beacon)) × ((read_of xs).mark ≤ 2)
+
+-- every code of a rate or beacon packet that is taken is one of the edition that its mark stands for: eight totals and 116 boxes; twelve
+-- beacons and three counts of samples (document 02, Point 7: "rates like the others under every mark")
+abbrev pub TakenCodes : Type 0
+TakenCodes =
+    (xs : List ℕ) (i : ℕ) → (read_of xs).number ≡ carried_out
+    → ((read_of xs).kind ≡ Some Rate → i < 124 → valid_by (read_of xs).mark (at16 xs (11 + 2 * i)) ≡ true)
+    × ((read_of xs).kind ≡ Some Beacon → i < 15 → valid_by (read_of xs).mark (at16 xs (11 + 2 * i)) ≡ true)
 
 -- 11 for any bytes with another number than "rate (application number 605), samples 606 to 616, beacon 624"
 abbrev pub OtherNumber : Type 0

@@ -3,12 +3,11 @@ ghost use Rattle.std.specs.Prelude.{◌≡◌};
 ghost use Rattle.ground.specs.Ground.{contents_of};
 
 use crate::Contents;
-use boxes::BEACONS;
 use decode::faults::Accepted;
 use decode::fields;
 use decode::kind::Kind;
 use packet::layout;
-use packet::layout::RATES;
+use packet::layout::{BEACON_RATES, RATES};
 use rate_code::editions::Mark;
 
 // A match on the kind, since each has fields of its own.
@@ -32,9 +31,9 @@ pub fn contents_of(accepted: Accepted) -> Contents
         }
         Kind::Sample => Contents::Sample { p: byte },
         Kind::Beacon => {
-            let mut beacons = [0u32; BEACONS];
-            fields::rates(packet, &mut beacons);
-            Contents::Beacon { mark, beacons }
+            let mut rates = [0u32; BEACON_RATES];
+            fields::rates(packet, &mut rates);
+            Contents::Beacon { mark, rates }
         }
     }
 }

@@ -7,12 +7,11 @@ ghost use Rattle.ground.specs.Ground.{told, read_of, records_of};
 mod body;
 
 use body::contents_of;
-use boxes::BEACONS;
 use causes::Cause;
 use decode::faults::{Accepted, judge};
 use decode::fields;
 use decode::kind::Kind;
-use packet::layout::{BODY_AT, FRAME_AT, RATES, TIME_AT};
+use packet::layout::{BEACON_RATES, BODY_AT, FRAME_AT, RATES, TIME_AT};
 use rate_code::editions::Mark;
 use settings::Settings;
 use wire::number::BigEndian;
@@ -44,7 +43,8 @@ pub enum Contents {
     },
     Beacon {
         mark: Mark,
-        beacons: [u32; BEACONS],
+        // The least counts of twelve beacons, then of eligible, replaced and dropped events.
+        rates: [u32; BEACON_RATES],
     },
 }
 

@@ -17,7 +17,7 @@ use Rattle.command_list.specs.CommandList.{filler}
 use Rattle.state.specs.declared.State.{State}
 use Rattle.image.specs.Image.{setting_kind, setting_of, command_bytes, command_of, entry_at, commands_bytes, numbers_at, commands_at}
 use Rattle.image.specs.Image.{settings_in, interval_in, command_list_in, state_of, low, two, flags_of}
-use Rattle.image.specs.Image.{interval_bytes, settings_image, command_list_bytes, image_of, entry_good, image_good}
+use Rattle.image.specs.Image.{interval_bytes, settings_image, command_list_bytes, added_bytes, image_of, entry_good, image_good}
 use Rattle.image.specs.Fits.{CommandFits, StateFits, Back, Good}
 use Rattle.image.proofs.ListLaws.{commands_at_lem, waitings_are}
 use Rattle.image.proofs.Lengths.{length_interval, length_command_list}
@@ -94,6 +94,13 @@ module _ (s : State) (f : StateFits s) where
   abbrev A : List ℕ
   A = two s.staging.next s.staging.reach
 
+  -- all but what was added
+  abbrev P : List ℕ
+  P = (((F ++ I) ++ S) ++ O) ++ A
+
+  abbrev E : List ℕ
+  E = added_bytes s
+
   abbrev X : List ℕ
   X = image_of s
 
@@ -112,29 +119,41 @@ module _ (s : State) (f : StateFits s) where
   l3 : length (((F ++ I) ++ S) ++ O) ≡ 766
   l3 = length-append ((F ++ I) ++ S) O ∙ omega (arith, l2, l_o)
 
+  l_p : length P ≡ 774
+  l_p = length-append (((F ++ I) ++ S) ++ O) A ∙ omega (arith, l3)
+
   -- where each part stands
-  at_I : (k : ℕ) → k < 560 → get_or X (2 + k) 0 ≡ get_or I k 0
+  in_P : (k : ℕ) → k < 774 → get_or X k 0 ≡ get_or P k 0
   unfolding image_of
+  in_P k h = within P E k (omega (arith, l_p))
+
+  at_I : (k : ℕ) → k < 560 → get_or X (2 + k) 0 ≡ get_or I k 0
   at_I k h =
-      within (((F ++ I) ++ S) ++ O) A (2 + k) (omega (arith, l3))
+      in_P (2 + k) (omega arith)
+      ∙ within (((F ++ I) ++ S) ++ O) A (2 + k) (omega (arith, l3))
       ∙ within ((F ++ I) ++ S) O (2 + k) (omega (arith, l2))
       ∙ within (F ++ I) S (2 + k) (omega (arith, l1))
       ∙ behind F I 2 k refl
 
   at_S : (k : ℕ) → k < 4 → get_or X (562 + k) 0 ≡ get_or S k 0
-  unfolding image_of
   at_S k h =
-      within (((F ++ I) ++ S) ++ O) A (562 + k) (omega (arith, l3))
+      in_P (562 + k) (omega arith)
+      ∙ within (((F ++ I) ++ S) ++ O) A (562 + k) (omega (arith, l3))
       ∙ within ((F ++ I) ++ S) O (562 + k) (omega (arith, l2))
       ∙ behind (F ++ I) S 562 k l1
 
   at_O : (k : ℕ) → k < 200 → get_or X (566 + k) 0 ≡ get_or O k 0
-  unfolding image_of
-  at_O k h = within (((F ++ I) ++ S) ++ O) A (566 + k) (omega (arith, l3)) ∙ behind ((F ++ I) ++ S) O 566 k l2
+  at_O k h =
+      in_P (566 + k) (omega arith)
+      ∙ within (((F ++ I) ++ S) ++ O) A (566 + k) (omega (arith, l3))
+      ∙ behind ((F ++ I) ++ S) O 566 k l2
 
   at_A : (k : ℕ) → k < 8 → get_or X (766 + k) 0 ≡ get_or A k 0
+  at_A k h = in_P (766 + k) (omega arith) ∙ behind (((F ++ I) ++ S) ++ O) A 766 k l3
+
+  at_E : (k : ℕ) → k < 4 → get_or X (774 + k) 0 ≡ get_or E k 0
   unfolding image_of
-  at_A k h = behind (((F ++ I) ++ S) ++ O) A 766 k l3
+  at_E k h = behind P E 774 k l_p
 
   frame_back : at16 X 0 ≡ s.frame
   unfolding image_of
@@ -149,7 +168,7 @@ module _ (s : State) (f : StateFits s) where
   N = s.interval.counts.beacons
 
   abbrev U : List ℕ
-  U = low s.interval.samples.used ∷ low s.interval.samples.replaced ∷ []
+  U = low s.interval.samples.slots.used ∷ low s.interval.samples.slots.replaced ∷ []
 
   abbrev R : List ℕ
   R = s.interval.readings ∷ s.interval.totals
@@ -203,7 +222,7 @@ module _ (s : State) (f : StateFits s) where
       ∙ within (B ++ N) U (116 + i) (omega (arith, l_bn))
       ∙ behind B N 116 i f.boxes_are
 
-  used_back : at32 X 518 ≡ s.interval.samples.used
+  used_back : at32 X 518 ≡ s.interval.samples.slots.used
   used_back =
       word 129 518 refl (omega arith)
       ∙ next_word 128
@@ -211,7 +230,7 @@ module _ (s : State) (f : StateFits s) where
       ∙ behind (B ++ N) U 128 0 l_bn
       ∙ omega (arith, f.used_fits)
 
-  replaced_back : at32 X 522 ≡ s.interval.samples.replaced
+  replaced_back : at32 X 522 ≡ s.interval.samples.slots.replaced
   replaced_back =
       word 130 522 refl (omega arith)
       ∙ next_word 129
@@ -229,6 +248,11 @@ module _ (s : State) (f : StateFits s) where
       ∙ behind ((B ++ N) ++ U) R 130 (1 + i) l_bnu
       ∙ behind (s.interval.readings ∷ []) s.interval.totals 1 i refl
 
+  eligible_back : at32 X 774 ≡ s.interval.samples.eligible
+  eligible_back =
+      (λ i. 16777216 * at_E 0 (omega arith) i + 65536 * at_E 1 (omega arith) i + 256 * at_E 2 (omega arith) i + at_E 3 (omega arith) i)
+      ∙ value32 s.interval.samples.eligible
+
   interval_back : interval_in X ≡ s.interval
   unfolding interval_in numbers_at
   interval_back = λ i. record {
@@ -237,7 +261,7 @@ module _ (s : State) (f : StateFits s) where
       boxes = table_is (λ (k : ℕ). at32 X (6 + 4 * k)) 116 B f.boxes_are box_back i;
       beacons = table_is (λ (k : ℕ). at32 X (470 + 4 * k)) 12 N f.beacons_are beacon_back i;
     };
-    samples = record { used = used_back i; replaced = replaced_back i };
+    samples = record { slots = record { used = used_back i; replaced = replaced_back i }; eligible = eligible_back i };
     readings = readings_back i;
     totals = table_is (λ (k : ℕ). at32 X (530 + 4 * k)) 8 s.interval.totals f.totals_are total_back i;
   }

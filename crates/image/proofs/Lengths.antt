@@ -20,7 +20,7 @@ module _ (i : Interval) (b : length i.counts.boxes ≡ 116) (n : length i.counts
   C = counts_bytes i.counts
 
   abbrev U : List ℕ
-  U = two (low i.samples.used) (low i.samples.replaced)
+  U = two (low i.samples.slots.used) (low i.samples.slots.replaced)
 
   pub length_to_counts : length (T ++ C) ≡ 516
   length_to_counts = length-append T C ∙ omega (arith, length_counts i.counts b n)

@@ -16,8 +16,8 @@ pub record StateFits (s : State) : Type 0 where
   pub beacons_are : length s.interval.counts.beacons ≡ 12
   pub totals_are : length s.interval.totals ≡ 8
   pub waiting_are : length s.commands.waiting ≡ 32
-  pub used_fits : s.interval.samples.used < 4294967296
-  pub replaced_fits : s.interval.samples.replaced < 4294967296
+  pub used_fits : s.interval.samples.slots.used < 4294967296
+  pub replaced_fits : s.interval.samples.slots.replaced < 4294967296
   pub accepted_fits : s.commands.accepted < 4294967296
   pub waiters_fit : s.commands.waiters < 4294967296
   pub commands_fit : (i : ℕ) → i < 32 → CommandFits (get_or s.commands.waiting i filler).command

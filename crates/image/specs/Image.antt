@@ -15,7 +15,7 @@ use Rattle.command_list.specs.declared.Waiting.{Waiting}
 use Rattle.state.specs.declared.State.{State}
 use Rattle.state.specs.declared.interval.Interval.{Interval}
 use Rattle.image.specs.Layout.{frame_at, taken_at, boxes_at, beacons_at, used_at, replaced_at, readings_at, totals_at, limhi_at, flags_at}
-use Rattle.image.specs.Layout.{hvstep_at, accepted_at, waiters_at, entries_at, entry_bytes, next_at, reach_at}
+use Rattle.image.specs.Layout.{hvstep_at, accepted_at, waiters_at, entries_at, entry_bytes, next_at, reach_at, eligible_at}
 use Rattle.image.specs.Layout.{setting_kinds, load_kind}
 
 -- ---- a waiting command: a kind byte, its value or address in four bytes, and y, which is 0 for a setting
@@ -70,7 +70,7 @@ unfoldable pub interval_in : List ℕ → Interval
 interval_in b = record {
   taken = at32 b taken_at;
   counts = record { boxes = numbers_at b boxes_at 116; beacons = numbers_at b beacons_at 12 };
-  samples = record { used = at32 b used_at; replaced = at32 b replaced_at };
+  samples = record { slots = record { used = at32 b used_at; replaced = at32 b replaced_at }; eligible = at32 b eligible_at };
   readings = at32 b readings_at;
   totals = numbers_at b totals_at 8;
 }
@@ -117,7 +117,7 @@ two a b = be32 a ++ be32 b
 
 abbrev pub interval_bytes : Interval → List ℕ
 interval_bytes i =
-    ((be32 i.taken ++ counts_bytes i.counts) ++ two (low i.samples.used) (low i.samples.replaced))
+    ((be32 i.taken ++ counts_bytes i.counts) ++ two (low i.samples.slots.used) (low i.samples.slots.replaced))
     ++ readings_bytes i.readings i.totals
 
 abbrev pub settings_image : Settings → List ℕ
@@ -126,7 +126,12 @@ settings_image s = (be16 s.limhi ++ one (flags_of s)) ++ one s.hvstep
 abbrev pub command_list_bytes : CommandList → List ℕ
 command_list_bytes o = two (low o.accepted) (low o.waiters) ++ commands_bytes o.waiting
 
+-- what document 02 added to the state
+abbrev pub added_bytes : State → List ℕ
+added_bytes s = be32 s.interval.samples.eligible
+
 unfoldable pub image_of : State → List ℕ
 image_of s =
-    (((be16 s.frame ++ interval_bytes s.interval) ++ settings_image s.settings) ++ command_list_bytes s.commands)
-    ++ two s.staging.next s.staging.reach
+    ((((be16 s.frame ++ interval_bytes s.interval) ++ settings_image s.settings) ++ command_list_bytes s.commands)
+    ++ two s.staging.next s.staging.reach)
+    ++ added_bytes s

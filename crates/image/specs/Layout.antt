@@ -59,8 +59,12 @@ next_at = entries_at + entry_bytes * 32
 abbrev pub reach_at : ℕ
 reach_at = next_at + 4
 
+-- behind them what document 02 added to the state: eligible events (Point 7), four bytes
+abbrev pub eligible_at : ℕ
+eligible_at = reach_at + 4
+
 abbrev pub image_bytes : ℕ
-image_bytes = reach_at + 4
+image_bytes = eligible_at + 4
 
 -- an entry's kind: a setting's is below this number, and a load has one of its own
 abbrev pub setting_kinds : ℕ

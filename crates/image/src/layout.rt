@@ -33,7 +33,9 @@ pub const NEXT_AT: usize = ENTRIES_AT + ENTRY_BYTES * 32;
 
 pub const REACH_AT: usize = NEXT_AT + 4;
 
-pub const IMAGE_BYTES: usize = REACH_AT + 4;
+pub const ELIGIBLE_AT: usize = REACH_AT + 4;
+
+pub const IMAGE_BYTES: usize = ELIGIBLE_AT + 4;
 
 pub type Image = [u8; IMAGE_BYTES];
 

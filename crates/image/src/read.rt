@@ -4,15 +4,16 @@ ghost use Rattle.image.specs.Image.{setting_of, command_of, entry_at, numbers_at
 ghost use Rattle.image.specs.Image.{settings_in, interval_in, command_list_in, state_of};
 
 use crate::layout::{
-    ACCEPTED_AT, BEACONS_AT, BOXES_AT, ENTRIES_AT, ENTRY_BYTES, FLAGS_AT, FRAME_AT, HVSTEP_AT,
-    Image, LIMHI_AT, LOAD_KIND, NEXT_AT, REACH_AT, READINGS_AT, REPLACED_AT, TAKEN_AT, TOTALS_AT,
-    USED_AT, WAITERS_AT,
+    ACCEPTED_AT, BEACONS_AT, BOXES_AT, ELIGIBLE_AT, ENTRIES_AT, ENTRY_BYTES, FLAGS_AT, FRAME_AT,
+    HVSTEP_AT, Image, LIMHI_AT, LOAD_KIND, NEXT_AT, REACH_AT, READINGS_AT, REPLACED_AT, TAKEN_AT,
+    TOTALS_AT, USED_AT, WAITERS_AT,
 };
 use capacity::Capacity;
 use command::command::{Command, Setting};
 use command_list::{CommandList, Waiting};
 use counts::Counts;
 use load::staging::Addresses;
+use samples::selection::SampleUse;
 use samples::slots::SlotUse;
 use settings::Settings;
 use state::State;
@@ -109,9 +110,12 @@ fn interval_in(image: &Image) -> Interval
             boxes: array_at(image, BOXES_AT),
             beacons: array_at(image, BEACONS_AT),
         },
-        samples: SlotUse {
-            used: u32::read(image, USED_AT) as usize,
-            replaced: u32::read(image, REPLACED_AT) as usize,
+        samples: SampleUse {
+            slots: SlotUse {
+                used: u32::read(image, USED_AT) as usize,
+                replaced: u32::read(image, REPLACED_AT) as usize,
+            },
+            eligible: u32::read(image, ELIGIBLE_AT),
         },
         readings: u32::read(image, READINGS_AT),
         totals: array_at(image, TOTALS_AT),

@@ -6,8 +6,8 @@ ghost use Rattle.image.specs.Image.{six, two, command_list_bytes, command_bytes,
 ghost use Rattle.image.specs.Image.{counts_bytes, readings_bytes, interval_bytes, image_of};
 
 use crate::layout::{
-    ACCEPTED_AT, BEACONS_AT, BOXES_AT, ENTRIES_AT, ENTRY_BYTES, FLAGS_AT, FRAME_AT, HVSTEP_AT,
-    Image, LIMHI_AT, LOAD_KIND, NEXT_AT, READINGS_AT, TAKEN_AT, TOTALS_AT, USED_AT,
+    ACCEPTED_AT, BEACONS_AT, BOXES_AT, ELIGIBLE_AT, ENTRIES_AT, ENTRY_BYTES, FLAGS_AT, FRAME_AT,
+    HVSTEP_AT, Image, LIMHI_AT, LOAD_KIND, NEXT_AT, READINGS_AT, TAKEN_AT, TOTALS_AT, USED_AT,
 };
 use command::command::Command;
 use command_list::{CommandList, Waiting};
@@ -101,7 +101,12 @@ fn put_interval(image: &mut Image, i: Interval)
 {
     i.taken.put(image, TAKEN_AT);
     put_counts(image, &i.counts);
-    put_two(image, USED_AT, low(i.samples.used), low(i.samples.replaced));
+    put_two(
+        image,
+        USED_AT,
+        low(i.samples.slots.used),
+        low(i.samples.slots.replaced),
+    );
     put_readings(image, i.readings, &i.totals);
 }
 
@@ -122,4 +127,5 @@ pub fn encode(image: &mut Image, s: State)
     put_settings(image, s.settings);
     put_command_list(image, &s.commands);
     put_two(image, NEXT_AT, s.staging.next, s.staging.reach);
+    s.interval.samples.eligible.put(image, ELIGIBLE_AT);
 }

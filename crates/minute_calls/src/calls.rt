@@ -50,6 +50,7 @@ fn print_closed(text: &mut Text, frame: u16, ended: Summary) {
         taken,
         counts,
         filled,
+        ..
     } = ended;
     let [_, _, _, _, box5, box6, box7, ..] = counts.boxes;
     writeln!(text, "{frame} {taken} {box5} {box6} {box7} {filled}");

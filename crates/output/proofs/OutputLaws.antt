@@ -7,6 +7,7 @@ use Rattle.wire.specs.Lists.{EachBelow}
 use Rattle.wire.proofs.Bytes.{length_part, length_words}
 use Rattle.wire.proofs.Lists.{decide}
 use Rattle.boxes.specs.Boxes.{box_count, beacon_count, total_count}
+use Rattle.packet.specs.Layout.{beacon_rate_count}
 use Rattle.packet.specs.Packet.{packet_bytes, sample_application, stamp_of, rate_packet, sample_packet, beacon_packet}
 use Rattle.decode.proofs.Back.{body_part}
 use Rattle.rate_code.specs.Rate.{count_limit}
@@ -16,8 +17,8 @@ use Rattle.state.specs.declared.interval.Interval.{Interval}
 use Rattle.state.specs.Interval.{interval_within}
 use Rattle.state.proofs.LimitLaws.{interval_limits, boxes_below, beacons_below, totals_below}
 use Rattle.output.specs.declared.Span.{Span}
-use Rattle.output.specs.Ended.{Ended}
-use Rattle.output.specs.Output.{span_bytes, samples_of, written, packet_at, rate_place, sample_place, beacon_place}
+use Rattle.output.specs.Ended.{dropped_in, Ended}
+use Rattle.output.specs.Output.{span_bytes, samples_of, beacon_rates_in, written, packet_at, rate_place, sample_place, beacon_place}
 
 -- ---- the limits of an interval with this many slots
 
@@ -30,6 +31,15 @@ module _ (slots : ℕ) (i : Interval) (w : interval_within slots i ≡ true) whe
 
   pub beacons_fit : EachBelow count_limit i.counts.beacons
   beacons_fit = beacons_below count_limit slots i w (omega (arith, (interval_limits slots i w).taken_most))
+
+  -- so of the samples' counts, whatever is filled
+  pub samples_fit : (filled : ℕ)
+      → (i.samples.eligible < count_limit) × (i.samples.slots.replaced < count_limit)
+      × (dropped_in i.samples.eligible filled i.samples.slots.replaced < count_limit)
+  samples_fit filled =
+      let l = interval_limits slots i w in
+      let eligible : i.samples.eligible < count_limit = omega (arith, l.eligible_taken, l.taken_most) in
+      (eligible, omega (arith, l.replaced_taken, l.taken_most), omega (arith, eligible))
 
 -- ---- lengths
 
@@ -49,6 +59,9 @@ pub record Lengths (e : Ended) (s : Span) : Type 0 where
   pub boxes_are : length e.summary.counts.boxes ≡ box_count
   pub beacons_are : length e.summary.counts.beacons ≡ beacon_count
   pub slots_enough : 64 * s.many ≤ length e.slots
+
+pub rates_are : (e : Ended) (s : Span) → Lengths e s → length (beacon_rates_in e.summary) ≡ beacon_rate_count
+rates_are e s l = length-append e.summary.counts.beacons _ ∙ omega (arith, l.beacons_are)
 
 -- ---- places
 
@@ -72,7 +85,7 @@ module _ (e : Ended) (s : Span) (l : Lengths e s) where
   samples n = samples_of e.frame e.time e.slots s.first n
 
   abbrev pub beacon : List ℕ
-  beacon = beacon_packet (stamp_of e.frame e.time second_mark) e.summary.counts.beacons
+  beacon = beacon_packet (stamp_of e.frame e.time second_mark) (beacon_rates_in e.summary)
 
   rate_length : length rate ≡ packet_bytes
   rate_length = length_rate _ e.totals e.summary.counts.boxes e.settings e.sum l.totals_are l.boxes_are
@@ -81,7 +94,7 @@ module _ (e : Ended) (s : Span) (l : Lengths e s) where
   slots_length i h = length_part e.slots (64 * i) 64 (omega (arith, l.slots_enough))
 
   beacon_length : length beacon ≡ packet_bytes
-  beacon_length = length_beacon _ e.summary.counts.beacons l.beacons_are
+  beacon_length = length_beacon _ (beacon_rates_in e.summary) (rates_are e s l)
 
   -- rate packet and n sample packets
   before_length : (n : ℕ) → n ≤ s.many → length (rate ++ samples n) ≡ packet_bytes * (n + 1)

@@ -3,8 +3,9 @@ use Rattle.std.specs.Prelude.{List, [], ◌++◌, ℕ, zero, suc, ◌+◌, ◌*�
 use Rattle.capacity.specs.declared.Numbers.{Numbers}
 use Rattle.rate_code.specs.Editions.{second_mark}
 use Rattle.packet.specs.Layout.{packet_bytes}
-use Rattle.packet.specs.Packet.{stamp_of, rate_packet, sample_packet, beacon_packet}
+use Rattle.packet.specs.Packet.{stamp_of, rate_packet, sample_packet, beacon_rates, beacon_packet}
 use Rattle.output.specs.declared.Span.{Span}
+use Rattle.output.specs.declared.Summary.{Summary}
 use Rattle.output.specs.Ended.{Ended}
 
 -- ---- which sample packets
@@ -25,12 +26,16 @@ samples_of frame time slots first zero = []
 samples_of frame time slots first (suc n) =
     samples_of frame time slots first n ++ sample_packet (stamp_of frame time (first + n)) (take 64 (drop (64 * n) slots))
 
+-- the beacon packet's rates
+abbrev pub beacon_rates_in : Summary → List ℕ
+beacon_rates_in s = beacon_rates s.counts.beacons s.eligible s.replaced s.dropped
+
 -- "rate .., samples .., beacon"; "Rate and beacon packets get 1 in byte 269" (document 02, Point 5)
 unfoldable pub written : Ended → Span → List ℕ
 written e s =
     rate_packet (stamp_of e.frame e.time second_mark) e.totals e.summary.counts.boxes e.settings e.sum
     ++ samples_of e.frame e.time e.slots s.first s.many
-    ++ beacon_packet (stamp_of e.frame e.time second_mark) e.summary.counts.beacons
+    ++ beacon_packet (stamp_of e.frame e.time second_mark) (beacon_rates_in e.summary)
 
 -- ---- where each stands
 

@@ -5,14 +5,14 @@ ghost use Rattle.std.specs.Prelude.{◌≡◌, true, ◌+◌, ◌*◌, ◌≤◌
 ghost use Rattle.wire.specs.Bytes.{put};
 ghost use Rattle.packet.specs.Packet.{packet_bytes};
 ghost use Rattle.state.specs.Limits.{within_limits};
-ghost use Rattle.output.specs.Ended.{ended_in};
+ghost use Rattle.output.specs.Ended.{summary_of, ended_in};
 ghost use Rattle.output.specs.Output.{whole_span, span_bytes, samples_of, written};
 
 use capacity::Numbers;
 use counts::Counts;
 use packet::layout::{PACKET_BYTES, RECORDS};
 use packet::stamp::stamp_of;
-use packet::write::{RateBody, write_beacon, write_rate};
+use packet::write::{BeaconBody, RateBody, write_beacon, write_rate};
 use rate_code::editions::Mark;
 use state::State;
 use tables::Tables;
@@ -23,6 +23,10 @@ pub struct Summary {
     pub taken: u32,
     pub counts: Counts,
     pub filled: usize,
+    // Of the events the eligible ones; of these those whose record replaced another, and those whose record went into no slot.
+    pub eligible: u32,
+    pub replaced: u32,
+    pub dropped: u32,
 }
 
 // The sample packets that are written: the first one's p, and how many.
@@ -67,17 +71,20 @@ fn write_samples(out: &mut [u8], frame: u16, time: u32, slots: &[u32], s: Span)
     }
 }
 
-// The packets of the state's interval, which ends at this time with these tables and slots. Any state may be lent, so that its limits
-// are judged before and are no invariant; so it is in the other crates of a call.
+// The packets of the state's interval, which ends at this time with these tables and slots; `summary` is what the close returns of
+// it, and the counts are lent where they lie. Any state may be lent, so that its limits are judged before and are no invariant; so it
+// is in the other crates of a call.
 pub fn write_packets(
     s: &State,
     time: u32,
     tables: &Tables,
     slots: &[u32],
+    summary: &Summary,
     span: Span,
     out: &mut [u8],
 )
     requires s_value { (within_limits s.now ≡ true) × (length out.old ≡ span_bytes span) }
+    requires summary_value { summary.now ≡ summary_of s.now slots.now }
     requires many_in_bounds { (64 * span.many ≤ length slots.now) × (span.first + span.many < 256) }
     ensures { out.new ≡ written (ended_in s.now time tables.now slots.now) span }
 {
@@ -94,5 +101,11 @@ pub fn write_packets(
     write_samples(out, s.frame, time, slots, span);
     let e = span_bytes(span);
     let a = e - PACKET_BYTES;
-    write_beacon(&mut out[a..e], stamp, &s.interval.counts.beacons);
+    let body = BeaconBody {
+        beacons: &s.interval.counts.beacons,
+        eligible: summary.eligible,
+        replaced: summary.replaced,
+        dropped: summary.dropped,
+    };
+    write_beacon(&mut out[a..e], stamp, body);
 }

@@ -1,7 +1,6 @@
 -- Sums of words: one word more, two runs, and the words of columns to which a row was added. Assumes nothing.
 use Rattle.std.proofs.Common.{◌≡◌, refl, sym, ap, ◌∙◌, List, [], ℕ, zero, suc, ◌+◌, ◌-◌, ◌*◌, ◌≤◌, ◌<◌, arith, add_assoc, add-one, length, drop, get_or, replicate, get_or-drop}
 use Rattle.std.specs.Simd.{first_chunks}
-use Rattle.std.proofs.lemmas.List.{get_or-take}
 use Rattle.wire.specs.Lists.{EachBelow}
 use Rattle.wire.specs.Bytes.{at24, total}
 use Rattle.wire.specs.Pieces.{table}

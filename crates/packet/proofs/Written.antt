@@ -8,8 +8,8 @@ use Rattle.settings.specs.declared.Settings.{Settings}
 use Rattle.packet.specs.declared.stamp.Stamp.{Stamp}
 use Rattle.rate_code.specs.Editions.{code_by}
 use Rattle.packet.specs.Layout.{application_at, body_at, inner_bytes, sum_at, packet_bytes, body_bytes, frame_at}
-use Rattle.boxes.specs.Boxes.{box_count, beacon_count, total_count}
-use Rattle.packet.specs.Layout.{record_count, beacon_unused}
+use Rattle.boxes.specs.Boxes.{box_count, total_count}
+use Rattle.packet.specs.Layout.{record_count, beacon_rate_count, beacon_unused}
 use Rattle.packet.specs.Packet.{rate_application, sample_application, beacon_application, header, summed, enveloped, trailer, packet_of}
 use Rattle.packet.specs.Packet.{codes, settings_bytes, rate_body, beacon_body, rate_packet, sample_packet, beacon_packet}
 
@@ -110,9 +110,9 @@ pub length_sample : (st : Stamp) (records : List ℕ) → length records ≡ rec
 unfolding sample_packet
 length_sample st records h = length_packet (sample_application + st.mark) st (words records) (length_sample_body records h)
 
-pub length_beacon_body : (mark : ℕ) (beacons : List ℕ) → length beacons ≡ beacon_count → length (beacon_body mark beacons) ≡ body_bytes
-length_beacon_body mark beacons h = length-append (codes mark beacons) (zeros beacon_unused) ∙ omega (arith, length_codes mark beacons)
+pub length_beacon_body : (mark : ℕ) (rates : List ℕ) → length rates ≡ beacon_rate_count → length (beacon_body mark rates) ≡ body_bytes
+length_beacon_body mark rates h = length-append (codes mark rates) (zeros beacon_unused) ∙ omega (arith, length_codes mark rates)
 
-pub length_beacon : (st : Stamp) (beacons : List ℕ) → length beacons ≡ beacon_count → length (beacon_packet st beacons) ≡ packet_bytes
+pub length_beacon : (st : Stamp) (rates : List ℕ) → length rates ≡ beacon_rate_count → length (beacon_packet st rates) ≡ packet_bytes
 unfolding beacon_packet
-length_beacon st beacons h = length_packet beacon_application st (beacon_body st.mark beacons) (length_beacon_body st.mark beacons h)
+length_beacon st rates h = length_packet beacon_application st (beacon_body st.mark rates) (length_beacon_body st.mark rates h)

@@ -1,4 +1,4 @@
--- Where each part of a packet stands, for its writer and its reader alike (document 01, "Packets"). Assumes nothing.
+-- Where each part of a packet stands, for its writer and its reader alike (document 01, "Packets"; document 02, Point 7). Assumes nothing.
 use Rattle.std.specs.Prelude.{ℕ, ◌+◌, ◌-◌, ◌*◌}
 use Rattle.boxes.specs.Boxes.{box_count, beacon_count, total_count}
 -- the flags' values in byte 261
@@ -101,9 +101,15 @@ table_sum_at = limhi_at + 2
 abbrev pub record_count : ℕ
 record_count = 64
 
--- "Beacon: 11-34 twelve rates"; 35 to 266 have no use
+-- "Beacon: 11-34 twelve rates"; eligible, replaced and dropped events "at bytes 35-40" (document 02, Point 7); 41 to 266 have no use
+abbrev pub beacon_rate_count : ℕ
+beacon_rate_count = beacon_count + 3
+
+abbrev pub sample_counts_at : ℕ
+sample_counts_at = body_at + code_bytes * beacon_count
+
 abbrev pub beacon_end : ℕ
-beacon_end = body_at + code_bytes * beacon_count
+beacon_end = body_at + code_bytes * beacon_rate_count
 
 abbrev pub beacon_unused : ℕ
 beacon_unused = frame_at - beacon_end

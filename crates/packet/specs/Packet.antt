@@ -1,5 +1,5 @@
--- The packets as lists of bytes (document 01, "Packets"). Assumes nothing.
-use Rattle.std.specs.Prelude.{ℕ, ◌+◌, ◌*◌, ◌%◌, List, ◌++◌}
+-- The packets as lists of bytes (document 01, "Packets"; document 02, Points 5 and 7). Assumes nothing.
+use Rattle.std.specs.Prelude.{ℕ, ◌+◌, ◌*◌, ◌%◌, List, [], ◌∷◌, ◌++◌}
 use Rattle.wire.specs.Bytes.{one, zeros, be16, be24, be32, words, total}
 use Rattle.wire.specs.Pieces.{runs}
 use Rattle.settings.specs.declared.Settings.{Settings}
@@ -77,9 +77,14 @@ rate_packet stamp totals boxes s sum = packet_of rate_application stamp (rate_bo
 unfoldable pub sample_packet : Stamp → (records : List ℕ) → List ℕ
 sample_packet stamp records = packet_of (application_of_sample stamp.mark) stamp (words records)
 
--- "Beacon: 11-34 twelve rates"; 35-266 are zero
-abbrev pub beacon_body : (mark : ℕ) (beacons : List ℕ) → List ℕ
-beacon_body mark beacons = codes mark beacons ++ zeros beacon_unused
+-- "Beacon: 11-34 twelve rates"; "the beacon packet carries their codes at bytes 35-40, rates like the others": those of "eligible,
+-- replaced and dropped events" (document 02, Point 7)
+abbrev pub beacon_rates : (beacons : List ℕ) (eligible replaced dropped : ℕ) → List ℕ
+beacon_rates beacons eligible replaced dropped = beacons ++ eligible ∷ replaced ∷ dropped ∷ []
 
-unfoldable pub beacon_packet : Stamp → (beacons : List ℕ) → List ℕ
-beacon_packet stamp beacons = packet_of beacon_application stamp (beacon_body stamp.mark beacons)
+-- 41-266 are zero
+abbrev pub beacon_body : (mark : ℕ) (rates : List ℕ) → List ℕ
+beacon_body mark rates = codes mark rates ++ zeros beacon_unused
+
+unfoldable pub beacon_packet : Stamp → (rates : List ℕ) → List ℕ
+beacon_packet stamp rates = packet_of beacon_application stamp (beacon_body stamp.mark rates)

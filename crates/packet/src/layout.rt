@@ -65,7 +65,11 @@ pub const TABLE_SUM_AT: usize = LIMHI_AT + 2;
 // A sample packet's records.
 pub const RECORDS: usize = 64;
 
-// A beacon packet: its codes, and bytes without use.
-pub const BEACON_END: usize = BODY_AT + CODE_BYTES * BEACONS;
+// A beacon packet: the codes of the beacons and those of eligible, replaced and dropped events, and bytes without use.
+pub const BEACON_RATES: usize = BEACONS + 3;
+
+pub const SAMPLE_COUNTS_AT: usize = BODY_AT + CODE_BYTES * BEACONS;
+
+pub const BEACON_END: usize = BODY_AT + CODE_BYTES * BEACON_RATES;
 
 pub const BEACON_UNUSED: usize = FRAME_AT - BEACON_END;

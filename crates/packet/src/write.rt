@@ -5,17 +5,16 @@ ghost use Rattle.wire.specs.Bytes.{put};
 ghost use Rattle.wire.specs.Lists.{EachBelow};
 ghost use Rattle.rate_code.specs.Rate.{count_limit};
 ghost use Rattle.rate_code.specs.Editions.{second_mark};
-ghost use Rattle.boxes.specs.Boxes.{beacon_count};
 ghost use Rattle.packet.specs.Layout.{packet_bytes, frame_at, sum_at, gap_at, code_bytes};
 ghost use Rattle.packet.specs.Layout.{record_count};
 ghost use Rattle.packet.specs.Packet.{trailer, codes, settings_bytes};
-ghost use Rattle.packet.specs.Packet.{rate_packet, sample_packet, beacon_packet};
+ghost use Rattle.packet.specs.Packet.{rate_packet, sample_packet, beacon_rates, beacon_packet};
 
 use crate::applications::{BEACON_APPLICATION, RATE_APPLICATION, of_sample};
 use crate::envelope::{write_header, write_sum};
 use crate::layout;
 use crate::stamp::Stamp;
-use boxes::{BOXES, TOTALS};
+use boxes::{BEACONS, BOXES, TOTALS};
 use rate_code::code::RateCode;
 use rate_code::second::Second;
 use settings::Settings;
@@ -72,6 +71,17 @@ pub struct RateBody<'a> {
     ghost sum_fits: { sum < 16777216 },
 }
 
+// What a beacon packet is written from: the beacons, and what became of the interval's samples.
+#[derive(Clone, Copy)]
+pub struct BeaconBody<'a> {
+    pub beacons: &'a [u32; BEACONS],
+    pub eligible: u32,
+    pub replaced: u32,
+    pub dropped: u32,
+    ghost beacons_fit: { EachBelow count_limit beacons.now },
+    ghost samples_fit: { (eligible < count_limit) × (replaced < count_limit) × (dropped < count_limit) },
+}
+
 // The rate packet: eight totals and 116 boxes as codes, the settings, the table sum.
 pub fn write_rate(part: &mut [u8], stamp: Stamp, body: RateBody)
     requires part_len { length part.old ≡ packet_bytes }
@@ -103,14 +113,26 @@ pub fn write_samples(part: &mut [u8], stamp: Stamp, records: &[u32])
     write_sum(part);
 }
 
-// The beacon packet: twelve counts as codes, and zeros.
-pub fn write_beacon(part: &mut [u8], stamp: Stamp, beacons: &[u32])
-    requires part_len { (length part.old ≡ packet_bytes) × (length beacons.now ≡ beacon_count) }
-    requires each_below { EachBelow count_limit beacons.now × (stamp.mark ≡ second_mark) }
-    ensures { part.new ≡ beacon_packet stamp beacons.now }
+// The beacon packet: fifteen counts as codes, and zeros.
+pub fn write_beacon(part: &mut [u8], stamp: Stamp, body: BeaconBody)
+    requires part_len { length part.old ≡ packet_bytes }
+    requires mark_value { stamp.mark ≡ second_mark }
+    ensures { part.new
+        ≡ beacon_packet stamp (beacon_rates body.entry.beacons.now body.entry.eligible body.entry.replaced body.entry.dropped) }
 {
+    let BeaconBody {
+        beacons,
+        eligible,
+        replaced,
+        dropped,
+    } = body;
     write_header(part, BEACON_APPLICATION, stamp.sequence, stamp.time);
     write_codes(part, layout::BODY_AT, beacons);
+    write_codes(
+        part,
+        layout::SAMPLE_COUNTS_AT,
+        &[eligible, replaced, dropped],
+    );
     wire::write::put_zeros(part, layout::BEACON_END, layout::FRAME_AT);
     write_trailer(part, stamp);
     write_sum(part);

@@ -91,14 +91,16 @@ pub fn sample(rt: &HostRuntime, part: &[u8]) {
 }
 
 pub fn beacon(rt: &HostRuntime, part: &[u8]) {
-    // Application number 625, an unused byte first and last, other marks, byte 270, a code.
+    // Application number 625, an unused byte first and last, other marks, byte 270, codes of beacons and of samples.
     summed(rt, part, 1, 113);
-    summed(rt, part, 35, 1);
+    summed(rt, part, 41, 1);
     summed(rt, part, 266, 1);
     summed(rt, part, 269, 0);
     summed(rt, part, 269, 2);
     summed(rt, part, 269, 3);
     summed(rt, part, 270, 1);
     summed(rt, part, 11, 255);
+    summed(rt, part, 35, 208);
+    summed(rt, part, 40, 1);
     changed(rt, part, 35, 1);
 }

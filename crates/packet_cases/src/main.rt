@@ -8,7 +8,7 @@ mod values;
 use boxes::{BEACONS, BOXES};
 use packet::layout;
 use packet::stamp::stamp_of;
-use packet::write::RateBody;
+use packet::write::{BeaconBody, RateBody};
 use rate_code::editions::Mark;
 use settings::Settings;
 
@@ -42,11 +42,13 @@ fn main(rt: HostRuntime) {
     cases::sample(&rt, &part);
     let mut beacons = [0u32; BEACONS];
     values::fill_counts(&mut beacons, 99);
-    packet::write::write_beacon(
-        &mut part,
-        stamp_of(65535, 60, Mark::Second.number()),
-        &beacons,
-    );
+    let body = BeaconBody {
+        beacons: &beacons,
+        eligible: 1000000,
+        replaced: 704,
+        dropped: 998592,
+    };
+    packet::write::write_beacon(&mut part, stamp_of(65535, 60, Mark::Second.number()), body);
     show::packet(&rt, &part);
     cases::beacon(&rt, &part);
 }

@@ -1,8 +1,7 @@
 // Lines of output.
-use boxes::BEACONS;
 use causes::call_number;
 use ground::{Contents, Packet};
-use packet::layout::RATES;
+use packet::layout::{BEACON_RATES, RATES};
 use settings::Settings;
 use std::fmt;
 use std::fmt::{Display, Formatter};
@@ -41,13 +40,13 @@ fn settings_line(rt: &HostRuntime, s: Settings) {
 }
 
 // What a kind has.
-fn contents_lines(rt: &HostRuntime, settings: Settings, rates: &[u32], beacons: &[u32]) {
+fn contents_lines(rt: &HostRuntime, settings: Settings, rates: &[u32], beacon_rates: &[u32]) {
     let count = |n: &u32| {
         let _ = print!(rt; "{n} ");
     };
     settings_line(rt, settings);
     line(rt, rates, &count);
-    line(rt, beacons, &count);
+    line(rt, beacon_rates, &count);
 }
 
 // What stands for the settings of a kind that has none: the output has their numbers, and `Settings` no default but the fresh ones.
@@ -71,15 +70,18 @@ fn read_lines(rt: &HostRuntime, packet: Packet) {
             sum,
         } => {
             let _ = println!(rt; "0 1 {header} {sum} 0 {} ", mark.number());
-            contents_lines(rt, settings, &rates, &[0; BEACONS]);
+            contents_lines(rt, settings, &rates, &[0; BEACON_RATES]);
         }
         Contents::Sample { p } => {
             let _ = println!(rt; "0 2 {header} 0 {p} 0 ");
-            contents_lines(rt, NO_SETTINGS, &[0; RATES], &[0; BEACONS]);
+            contents_lines(rt, NO_SETTINGS, &[0; RATES], &[0; BEACON_RATES]);
         }
-        Contents::Beacon { mark, beacons } => {
+        Contents::Beacon {
+            mark,
+            rates: beacon_rates,
+        } => {
             let _ = println!(rt; "0 3 {header} 0 0 {} ", mark.number());
-            contents_lines(rt, NO_SETTINGS, &[0; RATES], &beacons);
+            contents_lines(rt, NO_SETTINGS, &[0; RATES], &beacon_rates);
         }
     }
 }

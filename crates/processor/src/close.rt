@@ -58,7 +58,7 @@ pub fn close(
     check(is_right(state, slots, out.len()), Cause::BufferOrState)?;
     let summary = end_interval::summary_of(state, slots);
     let span = close_span(state);
-    output::write_packets(state, time, tables, slots, span, out);
+    output::write_packets(state, time, tables, slots, &summary, span, out);
     end_interval::end(state, tables, staging, slots);
     Ok(summary)
 }

@@ -1,5 +1,5 @@
 -- The sample rule goes on from what it left, and placing one record more agrees with it, from any start. Assumes nothing.
-use Rattle.std.proofs.Common.{◌≡◌, refl, sym, ap, ◌∙◌, Bool, true, false, ◌&&◌, cond, List, [], ◌∷◌, ◌++◌, map, append_assoc, ℕ}
+use Rattle.std.proofs.Common.{◌≡◌, refl, sym, ap, ◌∙◌, Bool, true, false, ◌&&◌, not, cond, List, [], ◌∷◌, ◌++◌, map, append_assoc, ℕ}
 use Rattle.std.proofs.Common.{zero, suc, ◌+◌, ◌-◌, ◌≤◌, ◌<◌, min, le_of_lt, zero-add, add-one, arith, ltb-true, ltb-false, ltb}
 use Rattle.std.proofs.Common.{length, set, take, drop, replicate, length-take, length-append, length-drop, drop_of_length-le}
 use Rattle.std.proofs.Common.{length-take-le, take_all, take_at, drop_at, drop-drop, count_by}
@@ -15,7 +15,7 @@ use Rattle.wire.proofs.Pieces.{padded_fill, padded_set}
 use Rattle.samples.specs.declared.slots.SlotUse.{SlotUse}
 use Rattle.samples.specs.Samples.{Place, free, replace, none, place_of, slots_after, use_after, filled}
 use Rattle.samples.specs.Samples.{first_from, replacers_from, replaced_from, sampled_from, slots_from, use_from}
-use Rattle.samples.specs.Samples.{replaced_by, sampled, slots_of, use_of}
+use Rattle.samples.specs.Samples.{replaced_by, sampled, slots_of, use_of, replaced_events, dropped_events}
 
 by_size : {P : Type 0} (a b : ℕ) → (a ≤ b → P) → (b ≤ a → P) → P
 by_size {P} a b f g = go (ltb a b) refl
@@ -31,6 +31,17 @@ module _ {A : Type 0} where
   take_append zero xs ys = rw (zero-sub (length xs))
   take_append (suc n) [] ys = rw sub-zero
   take_append (suc n) (x ∷ xs) ys = rw suc-sub-suc (ap (λ (r : List A). x ∷ r) (take_append n xs ys))
+
+  -- those that pass and those that do not are all
+  keep_both : (p : A → Bool) (l : List A) → length (keep p l) + length (keep (λ x. not (p x)) l) ≡ length l
+  unfolding keep
+  keep_both p [] = refl
+  keep_both p (x ∷ xs) = both (p x) (keep p xs) (keep (λ x. not (p x)) xs) (keep_both p xs)
+    where
+      both : (b : Bool) (l m : List A) → length l + length m ≡ length xs
+          → length (join_if b x l) + length (join_if (not b) x m) ≡ suc (length xs)
+      both true l m h = omega (arith, h)
+      both false l m h = omega (arith, h)
 
   -- b with hi in place of what it has from index r on
   abbrev over : ℕ → List A → List A → List A
@@ -152,6 +163,13 @@ module _ {A : Type 0} (p : A → Bool) (N lim : ℕ) where
   pub replaced_is : (l : List A) → replaced_by p N lim l ≡ min lim (length (keep p (drop N l)))
   unfolding replaced_from replacers_from
   replaced_is l = rw (sub-zero, length-take, zero-add)
+
+  -- the first N fill the slots; of the others so many are replaced, and the rest dropped
+  pub sum_of : (l : List A) → length l ≡ min N (length l) + replaced_events p N lim l + dropped_events p N lim l
+  unfolding replaced_events dropped_events
+  sum_of l =
+      let later = drop N l in
+      omega (arith, length-drop N l, keep_both p later, length-drop lim (keep p later))
 
   pub sampled_is : (l : List A) → sampled p N lim l ≡ take lim (keep p (drop N l)) ++ drop (replaced_by p N lim l) (take N l)
   unfolding sampled_from replacers_from

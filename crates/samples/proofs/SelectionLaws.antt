@@ -1,7 +1,7 @@
 -- What a list of events selects: one event more, none, as many slots filled as there are eligible events, up to their number, and each
 -- slot zero or of box 6 to 116. Assumes nothing.
 use Rattle.std.proofs.Common.{◌≡◌, refl, sym, ap, ◌∙◌, Bool, true, false, ◌&&◌, ◌||◌, cond, List, [], ◌∷◌, ◌++◌, map, append-nil, ℕ}
-use Rattle.std.proofs.Common.{zero, suc, ◌-◌, ◌≤◌, min, arith, lt-ltb, le-leb, leb-true, eqb, leb, length, replicate, length-append}
+use Rattle.std.proofs.Common.{zero, suc, ◌+◌, ◌-◌, ◌≤◌, min, arith, lt-ltb, le-leb, leb-true, eqb, leb, length, replicate, length-append}
 use Rattle.std.proofs.Math.Bool.{false≢true}
 use Rattle.std.proofs.Math.Nat.{sub-zero}
 use Rattle.std.proofs.Math.ListN.{length-map, length-replicate}
@@ -15,10 +15,10 @@ use Rattle.sort.specs.declared.event.Event.{Event}
 use Rattle.sort.specs.Event.{in_range}
 use Rattle.sort.proofs.EventLaws.{outcome_names}
 use Rattle.samples.specs.declared.slots.SlotUse.{SlotUse}
-use Rattle.samples.specs.Samples.{box_of, Place, none, place_of, slots_after, use_after, sampled, slots_of, use_of, filled}
+use Rattle.samples.specs.Samples.{box_of, Place, none, place_of, slots_after, use_after, sampled, slots_of, use_of, filled, replaced_events}
 use Rattle.samples.specs.Selection.{slots_taken, use_taken, sorted, is_eligible, priority, record_for, eligibles_by, slots_by, use_by, selection_of}
 use Rattle.samples.proofs.RecordLaws.{event_nonzero, box_fits, event_box}
-use Rattle.samples.proofs.SampleLaws.{length_sampled, filled_padded, place_agrees, replaced_few, sampled_few}
+use Rattle.samples.proofs.SampleLaws.{length_sampled, filled_padded, place_agrees, replaced_few, replaced_is, sampled_few, sum_of}
 use Rattle.samples.proofs.Places.{keep_passes, All-sampled}
 
 -- ---- one event more
@@ -37,11 +37,11 @@ module _ (N : ℕ) (s : Settings) (tables : List ℕ) (q : s.limhi ≤ N) (es : 
 
   abbrev Went : Place → List Event → Type 0
   Went p l =
-      (slots_after p (slots_by N s tables es) (use_by N s tables es) (record_for s tables e) ≡ slots_in l)
-      × (use_after p (use_by N s tables es) ≡ use_in l)
+      (slots_after p (slots_by N s tables es) (use_by N s tables es).slots (record_for s tables e) ≡ slots_in l)
+      × (use_after p (use_by N s tables es).slots ≡ use_in l)
 
   went_by : (b : Bool)
-      → Went (cond b (place_of N (use_by N s tables es) s.limhi (priority s tables e)) none) (eligibles_by s tables es ++ join_if b e [])
+      → Went (cond b (place_of N (use_by N s tables es).slots s.limhi (priority s tables e)) none) (eligibles_by s tables es ++ join_if b e [])
   unfolding slots_by use_by
   went_by true = place_agrees (priority s tables) (record_for s tables) N s.limhi q (eligibles_by s tables es) e
   went_by false = (
@@ -49,13 +49,22 @@ module _ (N : ℕ) (s : Settings) (tables : List ℕ) (q : s.limhi ≤ N) (es : 
     ap use_in (sym (append-nil (eligibles_by s tables es))),
   )
 
+  one_counted : (b : Bool)
+      → cond b (length (eligibles_by s tables es) + 1) (length (eligibles_by s tables es))
+      ≡ length (eligibles_by s tables es ++ join_if b e [])
+  one_counted true = sym (length-append (eligibles_by s tables es) (e ∷ []))
+  one_counted false = ap (λ (l : List Event). length l) (sym (append-nil (eligibles_by s tables es)))
+
   pub one_more_slots : slots_taken N (use_by N s tables es) s (slots_by N s tables es) e (sorted s tables e) ≡ slots_by N s tables (es ++ e ∷ [])
   unfolding slots_by
   one_more_slots = (went_by (is_eligible s tables e)).0 ∙ ap slots_in (sym eligibles_snoc)
 
   pub one_more_use : use_taken N (use_by N s tables es) s (sorted s tables e) ≡ use_by N s tables (es ++ e ∷ [])
   unfolding use_by
-  one_more_use = (went_by (is_eligible s tables e)).1 ∙ ap use_in (sym eligibles_snoc)
+  one_more_use =
+      let slots = (went_by (is_eligible s tables e)).1 ∙ ap use_in (sym eligibles_snoc) in
+      let eligible = one_counted (is_eligible s tables e) ∙ ap (λ (l : List Event). length l) (sym eligibles_snoc) in
+      λ i. record { slots = slots i; eligible = eligible i }
 
 -- ---- no event
 
@@ -68,11 +77,15 @@ module _ (N : ℕ) (s : Settings) (tables : List ℕ) where
   unfolding slots_by slots_of padded
   no_slots = rw (none_eligible, sampled_few (priority s tables) N s.limhi [] (omega arith), sub-zero)
 
-  pub no_use : record { used = 0; replaced = 0 } ≡ use_by N s tables []
+  pub no_use : record { slots = record { used = 0; replaced = 0 }; eligible = 0 } ≡ use_by N s tables []
   unfolding use_by use_of
   no_use =
       let none : 0 ≡ min N 0 = omega arith in
-      rw none_eligible (λ i. record { used = none i; replaced = sym (replaced_few (priority s tables) N s.limhi [] (omega arith)) i })
+      rw none_eligible
+      (λ i. record {
+        slots = record { used = none i; replaced = sym (replaced_few (priority s tables) N s.limhi [] (omega arith)) i };
+        eligible = 0;
+      })
 
 -- ---- filled slots
 
@@ -103,6 +116,19 @@ module _ (N : ℕ) (s : Settings) (tables : List ℕ) (q : s.limhi ≤ N) (es : 
   pub slots_length : length (slots_by N s tables es) ≡ N
   unfolding slots_by slots_of padded
   slots_length = simp (length-append, length-map, length-replicate, many_chosen) (omega arith)
+
+-- ---- what became of the eligible events (document 02, Point 7)
+
+module _ (N : ℕ) (s : Settings) (tables : List ℕ) (es : List Event) where
+  -- the use of the slots counts those that were replaced
+  pub replaced_selected : (use_by N s tables es).slots.replaced ≡ (selection_of N s tables es).replaced
+  unfolding use_by use_of replaced_events
+  replaced_selected = replaced_is (priority s tables) N s.limhi (eligibles_by s tables es)
+
+  -- "Eligible = filled + replaced + dropped"
+  pub sum_selected : length (selection_of N s tables es).eligibles
+      ≡ (selection_of N s tables es).filled + (selection_of N s tables es).replaced + (selection_of N s tables es).dropped
+  sum_selected = sum_of (priority s tables) N s.limhi (eligibles_by s tables es)
 
 -- ---- each slot is zero or of box 6 to 116
 

@@ -1,5 +1,5 @@
--- The samples of an interval (document 01, "One event", Samples). Assumes nothing.
-use Rattle.std.specs.Prelude.{Bool, false, ◌&&◌, ◌||◌, cond, List, [], ◌++◌, map, ℕ, ◌+◌, ◌-◌, min, leb, ltb, length, take, drop, set}
+-- The samples of an interval (document 01, "One event", Samples; document 02, Point 7). Assumes nothing.
+use Rattle.std.specs.Prelude.{Bool, false, ◌&&◌, ◌||◌, not, cond, List, [], ◌++◌, map, ℕ, ◌+◌, ◌-◌, min, leb, ltb, length, take, drop, set}
 use Rattle.wire.specs.Lists.{keep}
 use Rattle.wire.specs.Pieces.{padded}
 use Rattle.sample_record.specs.declared.Sample.{Sample}
@@ -117,3 +117,18 @@ module _ {A : Type 0} (priority : A → Bool) (rec : A → ℕ) (N limhi : ℕ) 
 
   unfoldable pub use_of : List A → SlotUse
   use_of l = use_from [] 0 l
+
+-- ---- what became of them (document 02, Point 7): l has all eligible events of the interval, in order
+
+module _ {A : Type 0} (priority : A → Bool) (N limhi : ℕ) where
+  -- those "after the 704th eligible one"
+  abbrev pub later : List A → List A
+  later l = drop N l
+
+  -- "the priority 1 eligible events after the 704th eligible one, or .. LIMHI if less"
+  unfoldable pub replaced_events : List A → ℕ
+  replaced_events l = min limhi (length (keep priority (later l)))
+
+  -- "every other one after the 704th": those with priority 0, and those with priority 1 behind the first LIMHI
+  unfoldable pub dropped_events : List A → ℕ
+  dropped_events l = length (keep (λ x. not (priority x)) (later l)) + length (drop limhi (keep priority (later l)))

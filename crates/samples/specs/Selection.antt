@@ -1,6 +1,6 @@
 -- What events select as samples (document 01, "One event", Samples, and "The tally of demand 3"): one event at a time, as the processor
 -- does it, and a whole list at once, as replies, packets and the tally have it. Assumes nothing.
-use Rattle.std.specs.Prelude.{◌≡◌, Bool, true, false, cond, List, map, ℕ, ◌<◌, min, length, get_or}
+use Rattle.std.specs.Prelude.{◌≡◌, Bool, true, false, cond, List, map, ℕ, ◌+◌, ◌<◌, min, length, get_or}
 use Rattle.wire.specs.Lists.{All, Distinct, keep}
 use Rattle.wire.specs.Pieces.{padded}
 use Rattle.settings.specs.declared.Settings.{Settings}
@@ -8,7 +8,9 @@ use Rattle.sort.specs.declared.event.Event.{Event}
 use Rattle.sort.specs.declared.sorting.Outcome.{Outcome}
 use Rattle.sort.specs.Sorting.{outcome_of}
 use Rattle.samples.specs.declared.slots.SlotUse.{SlotUse}
+use Rattle.samples.specs.declared.selection.SampleUse.{SampleUse}
 use Rattle.samples.specs.Samples.{eligible, priority_of, event_record, Place, none, place_of, slots_after, use_after, slots_of, use_of}
+use Rattle.samples.specs.Samples.{replaced_events, dropped_events}
 
 -- ---- one event, with N slots
 
@@ -16,11 +18,15 @@ use Rattle.samples.specs.Samples.{eligible, priority_of, event_record, Place, no
 abbrev pub place_for : (N : ℕ) → SlotUse → Settings → Outcome → Place
 place_for N u s o = cond (eligible s.junk o) (place_of N u s.limhi (priority_of o)) none
 
-abbrev pub slots_taken : (N : ℕ) → SlotUse → Settings → (slots : List ℕ) → Event → Outcome → List ℕ
-slots_taken N u s slots e o = slots_after (place_for N u s o) slots u (event_record e o)
+abbrev pub slots_taken : (N : ℕ) → SampleUse → Settings → (slots : List ℕ) → Event → Outcome → List ℕ
+slots_taken N u s slots e o = slots_after (place_for N u.slots s o) slots u.slots (event_record e o)
 
-abbrev pub use_taken : (N : ℕ) → SlotUse → Settings → Outcome → SlotUse
-use_taken N u s o = use_after (place_for N u s o) u
+-- and one more is eligible, or none
+abbrev pub use_taken : (N : ℕ) → SampleUse → Settings → Outcome → SampleUse
+use_taken N u s o = record {
+  slots = use_after (place_for N u.slots s o) u.slots;
+  eligible = cond (eligible s.junk o) (u.eligible + 1) u.eligible;
+}
 
 -- ---- a list of events
 
@@ -43,20 +49,26 @@ module _ (s : Settings) (tables : List ℕ) where
   unfoldable pub eligibles_by : List Event → List Event
   eligibles_by es = keep is_eligible es
 
--- what becomes of them: the eligible ones, the slots, how many of these are used and replaced, and how many are filled
+-- what becomes of them: the eligible ones, the slots, what the interval keeps of both, and how many events filled a slot, replaced another's
+-- record or were dropped (document 02, Point 7)
 pub record Selection : Type 0 where
   pub eligibles : List Event
   pub slots : List ℕ
-  pub samples : SlotUse
+  pub samples : SampleUse
   pub filled : ℕ
+  pub replaced : ℕ
+  pub dropped : ℕ
 
 -- "the sample rule over them gives the eligible ones and the slots", of which there are N
 module _ (N : ℕ) (s : Settings) (tables : List ℕ) where
   unfoldable pub slots_by : List Event → List ℕ
   slots_by es = slots_of (priority s tables) (record_for s tables) N s.limhi (eligibles_by s tables es)
 
-  unfoldable pub use_by : List Event → SlotUse
-  use_by es = use_of (priority s tables) (record_for s tables) N s.limhi (eligibles_by s tables es)
+  unfoldable pub use_by : List Event → SampleUse
+  use_by es = record {
+    slots = use_of (priority s tables) (record_for s tables) N s.limhi (eligibles_by s tables es);
+    eligible = length (eligibles_by s tables es);
+  }
 
   abbrev pub selection_of : List Event → Selection
   selection_of es = record {
@@ -64,6 +76,8 @@ module _ (N : ℕ) (s : Settings) (tables : List ℕ) where
     slots = slots_by es;
     samples = use_by es;
     filled = min N (length (eligibles_by s tables es));
+    replaced = replaced_events (priority s tables) N s.limhi (eligibles_by s tables es);
+    dropped = dropped_events (priority s tables) N s.limhi (eligibles_by s tables es);
   }
 
 -- ---- different events

@@ -1,4 +1,4 @@
-// The sample slots that the caller lends.
+// The sample slots that the caller lends, and the use that an interval makes of them.
 ghost use Rattle.std.specs.Prelude.{◌≡◌, ◌≤◌, length};
 ghost use Rattle.samples.specs.Samples.{place_of, slots_after, use_after};
 

@@ -13,7 +13,7 @@ use Rattle.command_list.specs.CommandList.{load_waits, command_list_within}
 use Rattle.command_list.proofs.CommandListLaws.{any_reach}
 use Rattle.state.specs.declared.State.{State}
 use Rattle.state.specs.declared.interval.Interval.{Interval}
-use Rattle.state.specs.Interval.{most_events, most_readings, counts_within, slots_within, readings_within, interval_within}
+use Rattle.state.specs.Interval.{most_events, most_readings, counts_within, samples_within, readings_within, interval_within}
 use Rattle.state.specs.Limits.{ranges_of, within_limits}
 use Rattle.state.specs.State.{with_interval, with_command_list, with_staging}
 
@@ -27,13 +27,13 @@ one_by_one false b c = refl
 -- are that of the state, where each part is judged by itself
 pub limits_by_parts : (s : State) {n : Numbers} {g : Ranges} {counts rest settings commands staging : Bool} → n ≡ numbers_of s.capacity
     → g ≡ ranges_of s → counts ≡ counts_within s.interval.taken s.interval.counts
-    → rest ≡ (slots_within n.slots s.interval.taken s.interval.samples && readings_within s.interval.readings s.interval.totals)
+    → rest ≡ (samples_within n.slots s.interval.taken s.interval.samples && readings_within s.interval.readings s.interval.totals)
     → settings ≡ settings_within n.limhi s.settings → commands ≡ command_list_within s.commands g
     → staging ≡ addresses_within s.staging → (counts && rest && settings && commands && staging) ≡ within_limits s
 unfolding within_limits interval_within
 limits_by_parts s n g c r t m a =
     let i = s.interval in
-    let slots : Numbers → Bool = λ k. slots_within k.slots i.taken i.samples in
+    let slots : Numbers → Bool = λ k. samples_within k.slots i.taken i.samples in
     let readings = readings_within i.readings i.totals in
     (λ j. c j && r j && t j && m j && a j)
     ∙ (λ j.
@@ -69,9 +69,10 @@ pub record IntervalLimits (slots : ℕ) (i : Interval) : Type 0 where
   pub taken_most : i.taken ≤ most_events
   pub boxes_most : all (at_most i.taken) i.counts.boxes ≡ true
   pub beacons_most : all (at_most i.taken) i.counts.beacons ≡ true
-  pub used_taken : i.samples.used ≤ i.taken
-  pub used_most : i.samples.used ≤ slots
-  pub replaced_taken : i.samples.replaced ≤ i.taken
+  pub eligible_taken : i.samples.eligible ≤ i.taken
+  pub used_taken : i.samples.slots.used ≤ i.taken
+  pub used_most : i.samples.slots.used ≤ slots
+  pub replaced_taken : i.samples.slots.replaced ≤ i.taken
   pub readings_most : i.readings ≤ most_readings
   pub totals_most : all (at_most (65535 * i.readings)) i.totals ≡ true
 
@@ -84,12 +85,14 @@ interval_limits slots i h =
     let c' = and_split _ _ c.0 in
     let l = and_split _ _ q.1 in
     let l' = and_split _ _ l.0 in
+    let l'' = and_split _ _ l'.0 in
     let r = and_split _ _ p.1 in
     record {
       taken_most = leb-true _ _ c'.0;
       boxes_most = c'.1;
       beacons_most = c.1;
-      used_taken = leb-true _ _ l'.0;
+      eligible_taken = leb-true _ _ l''.0;
+      used_taken = leb-true _ _ l''.1;
       used_most = leb-true _ _ l'.1;
       replaced_taken = leb-true _ _ l.1;
       readings_most = leb-true _ _ r.0;
@@ -103,6 +106,7 @@ interval_whole slots i w =
       le-leb _ _ w.taken_most,
       w.boxes_most,
       w.beacons_most,
+      le-leb _ _ w.eligible_taken,
       le-leb _ _ w.used_taken,
       le-leb _ _ w.used_most,
       le-leb _ _ w.replaced_taken,

@@ -4,7 +4,7 @@ use Rattle.wire.specs.Bytes.{zeros}
 use Rattle.wire.specs.Lists.{all, at_most}
 use Rattle.boxes.specs.Boxes.{box_count, beacon_count, total_count}
 use Rattle.counts.specs.declared.Counts.{Counts}
-use Rattle.samples.specs.declared.slots.SlotUse.{SlotUse}
+use Rattle.samples.specs.declared.selection.SampleUse.{SampleUse}
 use Rattle.state.specs.declared.interval.Interval.{Interval}
 
 -- "An interval takes up to 1,000,000 events and 60 second readings"
@@ -24,7 +24,7 @@ abbrev pub fresh_interval : Interval
 fresh_interval = record {
   taken = 0;
   counts = no_counts;
-  samples = record { used = 0; replaced = 0 };
+  samples = record { slots = record { used = 0; replaced = 0 }; eligible = 0 };
   readings = 0;
   totals = zeros total_count;
 }
@@ -32,7 +32,7 @@ fresh_interval = record {
 -- ---- what changes it
 
 -- one event more, with the counts and the use of the slots that it leaves
-abbrev pub with_event : Interval → Counts → SlotUse → Interval
+abbrev pub with_event : Interval → Counts → SampleUse → Interval
 with_event i counts samples =
     record { taken = i.taken + 1; counts = counts; samples = samples; readings = i.readings; totals = i.totals }
 
@@ -47,8 +47,9 @@ abbrev pub counts_within : (taken : ℕ) → Counts → Bool
 counts_within taken c = leb taken most_events && all (at_most taken) c.boxes && all (at_most taken) c.beacons
 
 -- ".. and other event count at most taken; 704 slots used": as many as there are
-abbrev pub slots_within : (slots taken : ℕ) → SlotUse → Bool
-slots_within slots taken u = leb u.used taken && leb u.used slots && leb u.replaced taken
+abbrev pub samples_within : (slots taken : ℕ) → SampleUse → Bool
+samples_within slots taken u =
+    leb u.eligible taken && leb u.slots.used taken && leb u.slots.used slots && leb u.slots.replaced taken
 
 -- "readings 60; each total 65,535 × readings"
 abbrev pub readings_within : (readings : ℕ) (totals : List ℕ) → Bool
@@ -57,4 +58,4 @@ readings_within readings totals = leb readings most_readings && all (at_most (65
 -- with this many slots
 unfoldable pub interval_within : (slots : ℕ) → Interval → Bool
 interval_within slots i =
-    counts_within i.taken i.counts && slots_within slots i.taken i.samples && readings_within i.readings i.totals
+    counts_within i.taken i.counts && samples_within slots i.taken i.samples && readings_within i.readings i.totals

@@ -1,10 +1,11 @@
 // The interval: what its events and its second readings have come to.
 ghost use Rattle.std.specs.Prelude.{◌≡◌, ◌&&◌};
 ghost use Rattle.wire.specs.Lists.{all, at_most};
-ghost use Rattle.state.specs.Interval.{fresh_interval, counts_within, slots_within, readings_within, interval_within};
+ghost use Rattle.state.specs.Interval.{fresh_interval, counts_within, samples_within, readings_within, interval_within};
 
 use boxes::TOTALS;
 use counts::Counts;
+use samples::selection::SampleUse;
 use samples::slots::SlotUse;
 
 #[derive(Clone, Copy)]
@@ -12,8 +13,8 @@ pub struct Interval {
     // Events taken.
     pub taken: u32,
     pub counts: Counts,
-    // The use that they made of the sample slots.
-    pub samples: SlotUse,
+    // What they have come to as samples.
+    pub samples: SampleUse,
     // Second readings, and their sums.
     pub readings: u32,
     pub totals: [u32; TOTALS],
@@ -30,9 +31,12 @@ pub fn fresh() -> Interval
     Interval {
         taken: 0,
         counts: Counts::default(),
-        samples: SlotUse {
-            used: 0,
-            replaced: 0,
+        samples: SampleUse {
+            slots: SlotUse {
+                used: 0,
+                replaced: 0,
+            },
+            eligible: 0,
         },
         readings: 0,
         totals: [0; TOTALS],
@@ -56,7 +60,7 @@ impl Interval {
     pub fn within(&self, slots: usize) -> bool
         ensures { result ≡ interval_within slots self.now }
     {
-        self.counts_within() & self.slots_within(slots) & self.readings_within()
+        self.counts_within() & self.samples_within(slots) & self.readings_within()
     }
 
     // Taken, and every box and beacon count at most taken.
@@ -68,12 +72,18 @@ impl Interval {
             & all_at_most(&self.counts.beacons, self.taken)
     }
 
-    // Used and replaced slots.
-    fn slots_within(&self, slots: usize) -> bool
-        ensures { result ≡ slots_within slots self.now.taken self.now.samples }
+    // Eligible events, used and replaced slots. The first by a branch: joined by `&`, this test, of the same form as those of the
+    // beacons, would keep their scan from being made of vectors (52 instructions).
+    fn samples_within(&self, slots: usize) -> bool
+        ensures { result ≡ samples_within slots self.now.taken self.now.samples }
     {
+        if self.taken < self.samples.eligible {
+            return false;
+        }
         let most = self.taken as usize;
-        (self.samples.used <= most) & (self.samples.used <= slots) & (self.samples.replaced <= most)
+        (self.samples.slots.used <= most)
+            & (self.samples.slots.used <= slots)
+            & (self.samples.slots.replaced <= most)
     }
 
     // Readings and their totals.

@@ -66,12 +66,16 @@ use_more free u = (omega arith, omega arith)
 use_more replace u = (omega arith, omega arith)
 use_more none u = (omega arith, omega arith)
 
+eligible_more : (b : Bool) (n : ℕ) → cond b (n + 1) n ≤ n + 1
+eligible_more true n = omega arith
+eligible_more false n = omega arith
+
 pub taken_within : (N : ℕ) (i : Interval) (s : Settings) (o : Outcome) → OutcomeNames o → i.taken < most_events
     → interval_within N i ≡ true → interval_within N (interval_taken N i s o) ≡ true
 unfolding interval_taken counted_of place_of
 taken_within N i s o n r h =
     let w = interval_limits N i h in
-    let u = i.samples in
+    let u = i.samples.slots in
     let p = use_more (place_for N u s o) u in
     interval_whole N _
     record {
@@ -81,6 +85,7 @@ taken_within N i s o n r h =
       used_taken = omega (arith, p.0, w.used_taken);
       used_most = used_most N (ltb u.used N) (priority_of o && ltb u.replaced s.limhi) (eligible s.junk o) u refl w.used_most;
       replaced_taken = omega (arith, p.1, w.replaced_taken);
+      eligible_taken = omega (arith, eligible_more (eligible s.junk o) i.samples.eligible, w.eligible_taken);
       readings_most = w.readings_most;
       totals_most = w.totals_most;
     }

@@ -29,6 +29,7 @@ read_within slots i counts f r h =
       used_taken = w.used_taken;
       used_most = w.used_most;
       replaced_taken = w.replaced_taken;
+      eligible_taken = w.eligible_taken;
       readings_most = omega arith;
       totals_most = table_most 8 (65535 * (i.readings + 1)) (λ k. get_or i.totals k 0 + get_or counts k 0)
           (λ k. omega (arith, f k, all_at (65535 * i.readings) i.totals k w.totals_most));

@@ -7,15 +7,15 @@ use Rattle.std.proofs.Math.ListN.{length-replicate}
 use Rattle.wire.specs.Bytes.{total}
 use Rattle.wire.proofs.Lists.{decide}
 use Rattle.command_list.specs.CommandList.{most_commands, command_list_with}
-use Rattle.state.specs.Interval.{no_counts}
 use Rattle.state.specs.Limits.{within_limits}
+use Rattle.end_interval.specs.End.{no_summary}
 use Rattle.wire.specs.Lists.{All}
 use Rattle.tally.specs.Steps.{Done}
 use Rattle.tally.specs.World.{World, Lending, all_own, owns_all, lend, others_lent}
 use Rattle.tally.specs.Calls.{Reply, nothing, Answered, Made, given}
 use Rattle.tally.specs.Tally.{Tally, events_of, Judged, tallied_as}
 use Rattle.tally.specs.View.{view_state, view}
-use Rattle.tally.specs.Demand3.{Balanced, SummaryBalanced, taken_in, Right}
+use Rattle.tally.specs.Demand3.{Balanced, taken_in, Right}
 use Rattle.tally.proofs.StepLaws.{shown, LawfulDone, Step}
 use Rattle.tally.proofs.Invariant.{Sizes, Inv, commands_most}
 use Rattle.tally.proofs.Lending.{own_all, back_same, others_same}
@@ -24,7 +24,7 @@ use Rattle.tally.proofs.Lending.{own_all, back_same, others_same}
 pub record Refused (w : World) (m : Made) : Type 0 where
   pub left : m ≡ record { carried = false; next = w; reply = m.reply; facts = nothing }
   pub none_taken : taken_in m.reply.summaries ≡ 0
-  pub balanced : All SummaryBalanced m.reply.summaries
+  pub balanced : All Balanced m.reply.summaries
 
 -- what a request that is carried out is to come to
 abbrev pub carried_as : Judged → Made
@@ -51,9 +51,9 @@ pub record Law (processed : World → Made) (tallied : Tally → Lending → Jud
 
 -- ---- from one request to one call
 
-pub none_balanced : Balanced 0 no_counts
+pub none_balanced : Balanced no_summary
 unfolding total
-none_balanced = record { boxes = refl; priorities = refl; gains = refl }
+none_balanced = record { boxes = refl; priorities = refl; gains = refl; samples = refl }
 
 -- what hands out no interval and no listing is right, if it takes what it should
 pub right_plain : (t : Tally) (d : Done World Answered) → d.answer.reply.summaries ≡ []

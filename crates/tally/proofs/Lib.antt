@@ -1,5 +1,6 @@
 pub mod StepLaws
 pub mod Balance
+pub mod SampleCounts
 pub mod CountLaws
 pub mod Starred
 pub mod Invariant

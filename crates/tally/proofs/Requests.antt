@@ -7,8 +7,6 @@ use Rattle.wire.specs.Lists.{all}
 use Rattle.wire.proofs.Lists.{decide}
 use Rattle.sort.specs.declared.event.Event.{Event}
 use Rattle.sort.specs.Event.{in_range}
-use Rattle.samples.specs.Samples.{filled}
-use Rattle.samples.proofs.SelectionLaws.{filled_selected}
 use Rattle.packet.specs.TableSum.{table_sum}
 use Rattle.settings.specs.declared.Settings.{Settings}
 use Rattle.command.specs.declared.command.Command.{Command}
@@ -40,12 +38,12 @@ use Rattle.processor.proofs.LimitsKept.{event_kept, reading_kept, line_kept, pac
 use Rattle.tally.specs.World.{with_state, with_slots, own, all_own}
 use Rattle.tally.specs.Calls.{Counts8, Request, event, reading, line, load_package, listing, answered, closed_with, nothing, one_event, one_ended}
 use Rattle.tally.specs.Calls.{made, sent_in, ends, processed, close_processed, SingleRequest, asks, close, single_processed}
-use Rattle.tally.specs.Tally.{Tally, events_of, slots_for, selected, ranges_for, line_for, good_for}
-use Rattle.tally.specs.Tally.{ended, sent_for, counts_of, totals_of, frame_of, tallied, close_tallied, single_tallied}
+use Rattle.tally.specs.Tally.{Tally, events_of, selected, ranges_for, line_for, good_for}
+use Rattle.tally.specs.Tally.{ended, sent_for, totals_of, frame_of, tallied, close_tallied, single_tallied}
 use Rattle.tally.specs.View.{view_state, view}
-use Rattle.tally.proofs.Balance.{counts_balanced}
-use Rattle.tally.proofs.Intervals.{slots_are, ended_right}
-use Rattle.tally.proofs.Invariant.{all_snoc, Sizes, Inv, limhi_most, commands_most}
+use Rattle.tally.proofs.Balance.{summary_balanced}
+use Rattle.tally.proofs.Intervals.{slots_are, summary_viewed, ended_right}
+use Rattle.tally.proofs.Invariant.{all_snoc, Sizes, Inv, commands_most}
 use Rattle.tally.proofs.Law.{Law, none_balanced, right_plain}
 use Rattle.tally.proofs.Numbers.{event_number_lem, reading_number_lem, line_number_lem, package_number_lem, close_number_lem, listing_number_lem}
 use Rattle.tally.proofs.Numbers.{event_range, line_accepted, package_passed, close_finds, listing_finds}
@@ -220,16 +218,13 @@ sent_at t v time = λ i. record {
     frame = frame_of t;
     time = time;
     totals = totals_of t;
-    summary = record { taken = length (events_of t); counts = counts_of t; filled = filled_are i };
+    summary = summary_viewed t v i;
     settings = t.settings;
     sum = table_sum t.tables;
     slots = (selected t).slots;
   };
   span = close_span t.capacity;
 }
-  where
-    filled_are : filled (selected t).slots ≡ (selected t).filled
-    filled_are = filled_selected (slots_for t) t.settings t.tables (limhi_most t v) (events_of t)
 
 one_none : {A : Type 0} (x : A) → x ∷ [] ≡ [] → ⊥
 one_none x h = omega (arith, ap length h)
@@ -249,7 +244,7 @@ close_law time out = record {
         (λ i. made true (ends_is t v i) (closed_with (sent_at t v time i)) (one_ended (sent_at t v time i)));
     kept = λ q lim. let f = close_finds t out (eqb-true _ 0 q) in ended_kept t v f.0 f.1;
     right = λ q. record {
-      balanced = (counts_balanced t.settings t.tables (events_of t), tt);
+      balanced = (summary_balanced t, tt);
       summaries_are = λ c. refl;
       intervals = (ended_right t v time, tt);
       tables_run = (ended_tables t v, tt);

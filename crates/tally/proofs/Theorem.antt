@@ -13,10 +13,11 @@ use Rattle.tally.specs.World.{World, fresh_world, with_slots, Lending}
 use Rattle.tally.specs.Calls.{Call, Answered, Made, processed_by, single_processed, SingleCall, processor_step}
 use Rattle.tally.specs.Tally.{unwritten, Tally, fresh_tally, events_of, slots_for, Judged, tallied_by, single_tallied, tally_step}
 use Rattle.tally.specs.View.{view_state, view}
-use Rattle.tally.specs.Demand3.{Moment, Right, takes, returned, demand3}
-use Rattle.tally.proofs.Balance.{counts_balanced}
-use Rattle.tally.proofs.Intervals.{samples_differ}
+use Rattle.tally.specs.Demand3.{Balanced, SamplesCounted, Moment, Right, takes, returned, demand3}
+use Rattle.tally.proofs.Balance.{summary_balanced}
+use Rattle.tally.proofs.Intervals.{samples_differ, summary_viewed}
 use Rattle.tally.proofs.Invariant.{Sizes, Inv, limhi_most}
+use Rattle.tally.proofs.SampleCounts.{summary_counted}
 use Rattle.tally.proofs.Law.{Law, request_step}
 use Rattle.tally.proofs.Requests.{single_law}
 use Rattle.tally.proofs.Staged.{none_below, none_right, none_waits}
@@ -38,7 +39,9 @@ unfolding view
 moment t v = record {
   same = refl;
   limits = v.limits;
-  balanced = counts_balanced t.settings t.tables (events_of t);
+  summary_is = summary_viewed t v;
+  balanced = subst Balanced (sym (summary_viewed t v)) (summary_balanced t);
+  samples_counted = subst (SamplesCounted t) (sym (summary_viewed t v)) (summary_counted t);
   filled_are = filled_selected (slots_for t) t.settings t.tables (limhi_most t v) (events_of t);
   samples = samples_differ t v;
   staged_known = v.staged;

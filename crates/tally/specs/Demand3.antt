@@ -1,10 +1,12 @@
--- Demand 3: one claim about every list of calls to a fresh processor (document 01, "The tally of demand 3"). Assumes nothing.
-use Rattle.std.specs.Prelude.{◌≡◌, ◌≢◌, ◌⊎◌, true, List, [], ◌∷◌, map, ℕ, ◌+◌, ◌-◌, ◌*◌, ◌<◌, min, length, get_or, take, drop}
+-- Demand 3: one claim about every list of calls to a fresh processor (document 01, "The tally of demand 3"; document 02, Point 7).
+-- Assumes nothing.
+use Rattle.std.specs.Prelude.{◌≡◌, ◌≢◌, ◌⊎◌, true, cond, List, [], ◌∷◌, ◌++◌, map, ℕ, ◌+◌, ◌-◌, ◌*◌, ◌≤◌, ◌<◌, min, length, get_or, take, drop}
 use Rattle.wire.specs.Bytes.{words, total}
-use Rattle.wire.specs.Lists.{All}
+use Rattle.wire.specs.Lists.{All, keep}
 use Rattle.capacity.specs.declared.Capacity.{Capacity}
 use Rattle.tables.specs.Tables.{table_bytes}
 use Rattle.counts.specs.declared.Counts.{Counts}
+use Rattle.sort.specs.declared.event.Event.{Event}
 use Rattle.samples.specs.Samples.{filled}
 use Rattle.samples.specs.Selection.{OfDifferentEvents}
 use Rattle.load.specs.Bitmap.{is_bad, staged_sum}
@@ -14,12 +16,14 @@ use Rattle.command_list.specs.declared.Waiting.{Waiting}
 use Rattle.listing_packet.specs.Listing.{listing_packets}
 use Rattle.state.specs.Limits.{within_limits}
 use Rattle.output.specs.declared.Summary.{Summary}
+use Rattle.output.specs.Ended.{summary_of}
 use Rattle.output.specs.Output.{written, packet_at, sample_place}
 use Rattle.tally.specs.Steps.{Done, replies, after, Lawful, Followed}
 use Rattle.tally.specs.World.{World, fresh_world}
 use Rattle.tally.specs.Calls.{SingleCall, Reply, Sent, Listing, written_listing, Answered, processor_step}
-use Rattle.tally.specs.Tally.{Wrote, unwritten, by_right, is_wrong, Tally, fresh_tally, events_of, slots_for, selected}
+use Rattle.tally.specs.Tally.{Wrote, unwritten, by_right, is_wrong, Tally, fresh_tally, events_of, slots_for, selected, summary_for}
 use Rattle.tally.specs.Tally.{load_waits_for, sent_for, listing_for, tally_step}
+use Rattle.tally.specs.Events.{is_sample, with_priority, without_priority}
 use Rattle.tally.specs.View.{view}
 
 -- ---- the balances
@@ -31,13 +35,31 @@ box c b = get_or c.boxes (b - 1) 0
 abbrev pub cells : Counts → ℕ
 cells c = total (drop 7 c.boxes)
 
-pub record Balanced (taken : ℕ) (c : Counts) : Type 0 where
+pub record Balanced (s : Summary) : Type 0 where
   -- every event is discarded, out of bounds, or in one box of 7 to 116
-  pub boxes : taken ≡ box c 5 + box c 6 + box c 7 + cells c
+  pub boxes : s.taken ≡ box s.counts 5 + box s.counts 6 + box s.counts 7 + cells s.counts
   -- every event in a cell's box has its priority
-  pub priorities : box c 1 + box c 2 ≡ box c 7 + cells c
+  pub priorities : box s.counts 1 + box s.counts 2 ≡ box s.counts 7 + cells s.counts
   -- every event that is not discarded has its gain
-  pub gains : box c 3 + box c 4 ≡ box c 6 + box c 7 + cells c
+  pub gains : box s.counts 3 + box s.counts 4 ≡ box s.counts 6 + box s.counts 7 + cells s.counts
+  -- "Eligible = filled + replaced + dropped" (document 02, Point 7)
+  pub samples : s.eligible ≡ s.filled + s.replaced + s.dropped
+
+-- what the counts of samples are by where the interval's events count (document 01, "Samples"; document 02, Point 7)
+pub record SamplesCounted (t : Tally) (s : Summary) : Type 0 where
+  -- "boxes 8 to 116 are eligible; boxes 6 and 7 only with junk 1"
+  pub eligible_are : s.eligible ≡ cells s.counts + cond t.settings.junk (box s.counts 6 + box s.counts 7) 0
+  -- up to "the 704th eligible one" none is replaced and none dropped
+  pub none_later : s.eligible ≤ slots_for t → (s.replaced ≡ 0) × (s.dropped ≡ 0)
+  -- "replaced counts the priority 1 eligible events after the 704th eligible one, or is LIMHI if less": `first` ends with that one
+  pub replaced_are : (first after : List Event) → events_of t ≡ first ++ after
+      → length (keep (is_sample t.settings t.tables) first) ≡ slots_for t
+      → s.replaced ≡ min t.settings.limhi (length (keep (with_priority t.settings t.tables) after))
+  -- "dropped counts every other one after the 704th"
+  pub dropped_are : (first after : List Event) → events_of t ≡ first ++ after
+      → length (keep (is_sample t.settings t.tables) first) ≡ slots_for t
+      → s.dropped ≡ length (keep (without_priority t.settings t.tables) after)
+      + (length (keep (with_priority t.settings t.tables) after) - t.settings.limhi)
 
 -- ---- the samples
 
@@ -59,7 +81,10 @@ pub record Moment (t : Tally) (w : World) : Type 0 where
   -- the state and the own buffers are the tally's
   pub same : w ≡ view t
   pub limits : within_limits w.state ≡ true
-  pub balanced : Balanced w.state.interval.taken w.state.interval.counts
+  -- what a close would return now is the tally's, each count from the events: of an open interval "those of the state and the lent slots"
+  pub summary_is : summary_of w.state w.buffers.slots ≡ summary_for t
+  pub balanced : Balanced (summary_of w.state w.buffers.slots)
+  pub samples_counted : SamplesCounted t (summary_of w.state w.buffers.slots)
   -- as many slots are filled as there are eligible events, up to their number
   pub filled_are : filled w.buffers.slots ≡ min (slots_for t) (length (selected t).eligibles)
   pub samples : Samples t w.buffers.slots
@@ -85,6 +110,7 @@ pub record ClosedInterval (t : Tally) (r : Reply) (e : Sent) : Type 0 where
   -- "packet p (0 to 10) has slots 64p to 64p + 63"
   pub slots_are : (i : ℕ) → i < e.span.many → records_in r.out i ≡ words (take 64 (drop (64 * i) (selected t).slots))
   pub samples : Samples t (selected t).slots
+  pub samples_counted : SamplesCounted t e.ended.summary
 
 -- a commit waits with this a and y
 abbrev pub CommitWaits : List Waiting → (a y : ℕ) → Type 0
@@ -111,9 +137,6 @@ pub record ListedPart (t : Tally) (r : Reply) (l : Listing) : Type 0 where
   pub i_below : l.i < listing_packets
   pub out_is : r.out ≡ written_listing l
 
-abbrev pub SummaryBalanced : Summary → Type 0
-SummaryBalanced s = Balanced s.taken s.counts
-
 -- the events that are returned out
 abbrev pub taken_in : List Summary → ℕ
 taken_in [] = 0
@@ -125,7 +148,7 @@ summaries_in (e ∷ es) = e.ended.summary ∷ summaries_in es
 
 pub record Right (t : Tally) (d : Done World Answered) : Type 0 where
   -- a close that is carried out hands out counts that balance; all else hands out zeros
-  pub balanced : All SummaryBalanced d.answer.reply.summaries
+  pub balanced : All Balanced d.answer.reply.summaries
   -- what is returned out is of the intervals that it ended
   pub summaries_are : d.carried ≡ true → d.answer.reply.summaries ≡ summaries_in d.answer.facts.ended
   pub intervals : All (ClosedInterval t d.answer.reply) d.answer.facts.ended

@@ -300,9 +300,17 @@ ended t = record {
   interval = empty_interval;
 }
 
--- what a close returns: taken is the number of events
+-- what a close returns: taken is the number of events, and so is each of the samples' counts (document 02, Point 7: "each count defined
+-- from the events, not the record")
 abbrev pub summary_for : Tally → Summary
-summary_for t = record { taken = length (events_of t); counts = counts_of t; filled = (selected t).filled }
+summary_for t = record {
+  taken = length (events_of t);
+  counts = counts_of t;
+  filled = (selected t).filled;
+  eligible = length (selected t).eligibles;
+  replaced = (selected t).replaced;
+  dropped = (selected t).dropped;
+}
 
 -- what it hands to the packets
 abbrev pub ended_for : Tally → (time : ℕ) → Ended

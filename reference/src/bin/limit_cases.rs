@@ -6,6 +6,7 @@ use reference::commands::ECHO_BYTES;
 use reference::loads::{BITMAP_BYTES, STAGING_BYTES};
 use reference::packets::{OUTPUT_BYTES, PACKET_BYTES};
 use reference::processor::Processor;
+use reference::sample_counts::EligibleEvents;
 use reference::samples::SLOTS;
 use reference::sorting::{Event, VALID_STOP};
 use reference::tables::TABLE_BYTES;
@@ -24,6 +25,7 @@ struct Lent {
     staging: Vec<u8>,
     bitmap: Vec<u8>,
     slots: Vec<u32>,
+    eligible_events: EligibleEvents,
     echo: Vec<u8>,
     output: Vec<u8>,
     /// For one packet.
@@ -37,6 +39,7 @@ impl Lent {
             staging: vec![0; STAGING_BYTES],
             bitmap: vec![0; BITMAP_BYTES],
             slots: vec![0; SLOTS],
+            eligible_events: EligibleEvents::default(),
             echo: vec![0; ECHO_BYTES],
             output: vec![0; OUTPUT_BYTES],
             out: vec![0; PACKET_BYTES],
@@ -46,7 +49,7 @@ impl Lent {
     // What a fresh processor answers.
 
     fn event(mut self, e: &Event) -> Number {
-        fresh().event(e, &self.tables, &mut self.slots)
+        fresh().event(e, &self.tables, &mut self.slots, &mut self.eligible_events)
     }
 
     fn line(mut self, bytes: &[u8]) -> Number {
@@ -58,8 +61,8 @@ impl Lent {
     }
 
     fn close(mut self) -> Number {
-        let Lent { tables, staging, slots, output, .. } = &mut self;
-        fresh().close(60, tables, staging, slots, output).number
+        let Lent { tables, staging, slots, eligible_events, output, .. } = &mut self;
+        fresh().close(60, tables, staging, slots, eligible_events, output).number
     }
 
     fn listing(mut self, i: u16) -> Number {

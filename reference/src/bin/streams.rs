@@ -16,6 +16,7 @@ streams SEED CALLS DIR [options]   a stream of CALLS calls in DIR/stdin, its tab
     --million        before them an interval of 1,000,000 events and events after it
     --full N         before them N intervals with all 704 slots filled
     --unclosed N     the same without the closes
+    --busy           before them intervals in which slots are replaced and events dropped, in many ways
     --frames N       before them N intervals in which nothing happens
     --limits         before them a state at each limit, one below and one beyond it, and calls on each
     --states         among them states that are handed in, within their limits or not, and slots
@@ -59,6 +60,7 @@ fn stream(arguments: &[String]) -> Option<()> {
             "--million" => stream.million(),
             "--full" => stream.full_intervals(options.next()?.parse().ok()?, true),
             "--unclosed" => stream.full_intervals(options.next()?.parse().ok()?, false),
+            "--busy" => stream.every_busy_interval(),
             "--frames" => stream.empty_intervals(options.next()?.parse().ok()?),
             "--limits" => stream.every_limit(),
             "--states" => stream.states = true,

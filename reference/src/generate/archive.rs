@@ -1,5 +1,5 @@
-//! An archive: packets one after the other, of the first edition, as an instrument of the past sent
-//! them; and the same with packets that do not belong there.
+//! An archive: packets one after the other, of the first edition and without counts of samples, as an
+//! instrument of the past sent them; and the same with packets that do not belong there.
 
 use std::io::{Result, Write};
 
@@ -47,7 +47,7 @@ impl Instrument {
         let mut packet = [0; PACKET_BYTES];
         match next {
             0 => packet = rates::rate(&mut self.random, time, frame),
-            12 => packet = rates::beacon(&mut self.random, time, frame),
+            12 => packet = rates::old_beacon(&mut self.random, time, frame),
             _ => write_sample(&mut packet, time, frame, next - 1, &self.slots),
         }
         rates::into_first(&mut packet);

@@ -141,8 +141,8 @@ fn beacon_fault(random: &mut Random, packet: &mut Bytes, some: u8) {
     match random.below(5) {
         0 => wrong_code(random, packet),
         1 => wrong_end(random, packet, some),
-        2 => packet[random.pick(&[35, 266])] = some,
-        _ => packet[random.between(35, 266) as usize] = some,
+        2 => packet[random.pick(&[41, 266])] = some,
+        _ => packet[random.between(41, 266) as usize] = some,
     }
 }
 

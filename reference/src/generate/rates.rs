@@ -6,6 +6,7 @@ use crate::codes::Edition;
 use crate::commands::Settings;
 use crate::generate::Random;
 use crate::packets::*;
+use crate::sample_counts::SampleCounts;
 use crate::sorting::Counts;
 
 /// Codes that some count has in both editions, and in the second alone.
@@ -69,8 +70,18 @@ pub fn rate(random: &mut Random, time: u32, frame: u16) -> Bytes {
 }
 
 pub fn beacon(random: &mut Random, time: u32, frame: u16) -> Bytes {
+    let [eligible, replaced, dropped] = [(); 3].map(|()| count(random));
+    beacon_of(random, time, frame, &SampleCounts { eligible, replaced, dropped })
+}
+
+/// One of the time before Point 7: it had no counts of samples.
+pub fn old_beacon(random: &mut Random, time: u32, frame: u16) -> Bytes {
+    beacon_of(random, time, frame, &SampleCounts::NONE)
+}
+
+fn beacon_of(random: &mut Random, time: u32, frame: u16, sample_counts: &SampleCounts) -> Bytes {
     let mut packet = [0; PACKET_BYTES];
-    write_beacon(&mut packet, time, frame, &counts(random));
+    write_beacon(&mut packet, time, frame, &counts(random), sample_counts);
     packet
 }
 

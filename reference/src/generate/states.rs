@@ -38,8 +38,7 @@ pub fn lawful(random: &mut Random) -> Processor {
         p.counts.boxes[1..].fill_with(|| up_to(random, taken) as u32);
         p.counts.beacons[1..].fill_with(|| up_to(random, taken) as u32);
     }
-    // More may be replaced than are used, or than LIMHI allows: no limit forbids that.
-    p.samples = Samples { used: up_to(random, taken.min(SLOTS)), replaced: up_to(random, taken) };
+    p.samples = samples(random, taken);
     p.readings = up_to(random, MOST_READINGS as usize) as u32;
     p.totals.fill_with(|| up_to(random, 65_535 * p.readings as usize) as u32);
     p.settings = settings(random);
@@ -49,6 +48,17 @@ pub fn lawful(random: &mut Random) -> Processor {
     p.waits = up_to(random, p.accepted);
     waiting(random, &mut p);
     p
+}
+
+/// Numbers that an interval has, or any: more may be replaced than are used, or than LIMHI allows, and
+/// fewer eligible than both together: no limit forbids that.
+fn samples(random: &mut Random, taken: usize) -> Samples {
+    let eligible = up_to(random, taken);
+    let of_interval = eligible.min(SLOTS);
+    if random.percent(50) {
+        return Samples { eligible, used: of_interval, replaced: up_to(random, eligible - of_interval) };
+    }
+    Samples { eligible, used: up_to(random, taken.min(SLOTS)), replaced: up_to(random, taken) }
 }
 
 fn settings(random: &mut Random) -> Settings {
@@ -100,10 +110,10 @@ pub fn any(random: &mut Random) -> Processor {
     p
 }
 
-/// Taken, a box, a beacon, the used and the replaced slots, readings or a total.
+/// Taken, a box, a beacon, eligible events, the used and the replaced slots, readings or a total.
 fn at_a_count(random: &mut Random, p: &mut Processor) {
     let taken = p.taken as usize;
-    match random.below(7) {
+    match random.below(8) {
         0 => p.taken = near(random, MOST_EVENTS as usize),
         1 => p.counts.boxes[1 + random.below(116)] = near(random, taken),
         2 => p.counts.beacons[1 + random.below(12)] = near(random, taken),
@@ -112,7 +122,8 @@ fn at_a_count(random: &mut Random, p: &mut Processor) {
             p.samples.used = near(random, limit) as usize;
         }
         4 => p.samples.replaced = near(random, taken) as usize,
-        5 => p.readings = near(random, MOST_READINGS as usize),
+        5 => p.samples.eligible = near(random, taken) as usize,
+        6 => p.readings = near(random, MOST_READINGS as usize),
         _ => p.totals[random.below(8)] = near(random, 65_535 * p.readings.min(60) as usize),
     }
 }
@@ -220,7 +231,8 @@ impl Stream {
         self.hand_in_slots(&[0; SLOTS]);
     }
 
-    /// A state record with a waiting command of no kind, or of too large a value; slots one byte off.
+    /// A state record with a waiting command of no kind, or of too large a value, or without its last
+    /// number; slots one byte off.
     pub fn no_state(&mut self) {
         let from = self.bytes.len();
         if self.random.percent(30) {
@@ -231,6 +243,10 @@ impl Stream {
         }
         let state = any(&mut self.random);
         calls::write(&Call::State(Box::new(state)), Form::Replay, &mut self.bytes);
+        if self.random.percent(20) {
+            self.bytes.truncate(self.bytes.len() - 4);
+            return;
+        }
         let entry = from + 1 + 574 + 6 * self.random.below(MOST_COMMANDS);
         if self.random.percent(50) {
             self.bytes[entry] = self.random.pick(&[6, 7, 127, 128, 254]);
@@ -283,6 +299,7 @@ impl Stream {
         self.most = usize::MAX;
         edges().into_iter().for_each(|state| self.each_call(state));
         self.slots_of_each_box();
+        self.sums_of_samples();
         self.asks_of_each_cause();
         self.hand_in(Processor::FRESH);
         self.hand_in_slots(&[0; SLOTS]);
@@ -301,6 +318,39 @@ impl Stream {
             }
         }
         self.hand_in_slots(&[0; SLOTS]);
+    }
+
+    /// Eligible events, filled and replaced slots: those of an interval, and others, of which more are
+    /// filled and replaced than were eligible. Each is closed at once, and after some events.
+    fn sums_of_samples(&mut self) {
+        for (eligible, filled, replaced) in [
+            (704, 704, 0),
+            (705, 704, 0),
+            (705, 704, 1),
+            (1_000, 704, 200),
+            (1_000, 704, 296),
+            (1_000, 704, 297),
+            (5, 7, 0),
+            (5, 7, 1),
+            (5, 3, 2),
+            (5, 3, 3),
+            (5, 0, 6),
+            (0, 703, 0),
+            (1_000, 0, 0),
+        ] {
+            for events in [0, 10] {
+                let mut slots = [60 << 1; SLOTS];
+                slots[filled..].fill(0);
+                self.hand_in_slots(&slots);
+                let samples = Samples { eligible, used: eligible.min(SLOTS), replaced };
+                self.hand_in(Processor { taken: 1_000, samples, ..Processor::FRESH });
+                self.events(events);
+                self.call(Call::Show);
+                self.call(Call::Close(60));
+                let beacon = self.written(12);
+                self.call(Call::Packet(beacon.to_vec()));
+            }
+        }
     }
 
     /// Lines about staging while bytes are bad or not, a load waits or not, after 31 and 32 commands.
@@ -372,22 +422,28 @@ fn count_edges(states: &mut Vec<Processor>) {
             states.push(p);
         }
     }
-    for (taken, used, replaced) in [
-        (5, 4, 0),
-        (5, 5, 0),
-        (5, 6, 0),
-        (1_000, 703, 0),
-        (1_000, 704, 0),
-        (1_000, 705, 0),
-        (5, 5, 5),
-        (5, 5, 6),
-        (5, 0, 5),
-        (1_000, 704, 499),
-        (1_000, 704, 500),
-        (1_000, 704, 1_000),
-        (1_000, 704, 1_001),
+    for (taken, eligible, used, replaced) in [
+        (5, 4, 4, 0),
+        (5, 5, 5, 0),
+        (5, 6, 5, 0),
+        (5, 5, 6, 0),
+        (1_000, 703, 703, 0),
+        (1_000, 704, 704, 0),
+        (1_000, 705, 705, 0),
+        (5, 5, 5, 5),
+        (5, 5, 5, 6),
+        (5, 0, 0, 5),
+        (1_000, 1_000, 0, 0),
+        (1_000, 1_001, 0, 0),
+        (1_000, u32::MAX as usize, 0, 0),
+        (1_000_000, 1_000_000, 704, 500),
+        (1_000_000, 1_000_001, 704, 500),
+        (1_000, 1_000, 704, 499),
+        (1_000, 1_000, 704, 500),
+        (1_000, 704, 704, 1_000),
+        (1_000, 704, 704, 1_001),
     ] {
-        states.push(Processor { samples: Samples { used, replaced }, ..of(taken) });
+        states.push(Processor { samples: Samples { eligible, used, replaced }, ..of(taken) });
     }
 }
 

@@ -91,39 +91,67 @@ impl Stream {
     }
 
     pub fn events_up_to(&mut self, most: usize) {
-        for _ in 0..=self.random.below(most) {
+        let events = 1 + self.random.below(most);
+        self.events(events);
+    }
+
+    pub fn events(&mut self, events: usize) {
+        for _ in 0..events {
             let wrong = self.random.percent(3);
             let event = if wrong { self.wrong_event() } else { self.any_event() };
             self.event(event);
         }
     }
 
-    /// Thousands of eligible events: all slots used, then replaced up to LIMHI and beyond.
+    /// Thousands of eligible events: all slots used, then replaced up to LIMHI or less, and more events.
     fn busy_interval(&mut self) {
         self.send_offsets(&[0]);
         let limhi = self.random.pick(&[0, 1, 2, 500, 703, 704]);
-        self.line(format!("limhi {limhi:x}"));
         let junk = self.random.below(2);
-        self.line(format!("junk {junk}"));
-        self.close();
-        let stop = self.random.below(5);
-        for _ in 0..3_000 {
-            let samples = self.station.processor.samples;
-            let replaced = samples.replaced == self.station.processor.settings.limhi as usize;
-            match stop {
-                0 if samples.used == SLOTS - 1 => break,
-                1 if samples.used == SLOTS => break,
-                _ if samples.used == SLOTS && replaced => break,
-                _ => {}
-            }
-            let event = self.any_event();
-            self.event(event);
-        }
-        if stop > 2 {
+        self.begin_interval(limhi, junk);
+        let some = self.random.below(limhi + 1);
+        let stops = [(SLOTS - 1, 0), (SLOTS, 0), (SLOTS, some), (SLOTS, limhi), (SLOTS, limhi)];
+        let (used, replaced) = self.random.pick(&stops);
+        self.events_until(used, replaced, 3_000);
+        if self.random.percent(50) {
             self.events_up_to(200);
         }
         self.close();
         self.read_all();
+    }
+
+    /// An interval with these settings begins.
+    fn begin_interval(&mut self, limhi: usize, junk: usize) {
+        self.line(format!("limhi {limhi:x}"));
+        self.line(format!("junk {junk}"));
+        self.close();
+    }
+
+    /// Events until so many slots are used and replaced, but no more than `most`.
+    fn events_until(&mut self, used: usize, replaced: usize, most: usize) {
+        for _ in 0..most {
+            let samples = self.station.processor.samples;
+            if samples.used >= used && samples.replaced >= replaced {
+                return;
+            }
+            let event = self.any_event();
+            self.event(event);
+        }
+    }
+
+    /// Full slots and events after them, with and without junk: LIMHI 0 to 704, reached and not.
+    pub fn every_busy_interval(&mut self) {
+        self.most = usize::MAX;
+        for (limhi, replaced) in [(0, 0), (1, 0), (1, 1), (500, 250), (500, 500), (704, 352), (704, 704)]
+        {
+            for (junk, more) in [(0, 0), (0, 100), (1, 0), (1, 100)] {
+                self.begin_interval(limhi, junk);
+                self.events_until(SLOTS, replaced, 20_000);
+                self.events(more);
+                self.close();
+                self.read_all();
+            }
+        }
     }
 
     /// One interval of 1,000,000 events, and events after it.

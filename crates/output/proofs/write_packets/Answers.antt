@@ -4,12 +4,14 @@ use borrow.Rule.Slice.PartMut.{put_mid}
 use Rattle.wire.specs.Bytes.{put}
 use Rattle.wire.proofs.Bytes.{then, put_all, put_mid_lem}
 use Rattle.rate_code.specs.Editions.{second_mark}
-use Rattle.packet.specs.declared.stamp.Stamp.{Stamp}
-use Rattle.packet.specs.Packet.{packet_bytes, stamp_of, rate_packet, beacon_packet}
+use Rattle.packet.specs.Packet.{packet_bytes, stamp_of, rate_packet, beacon_rates, beacon_packet}
 use Rattle.packet.specs.TableSum.{table_sum}
 use Rattle.state.proofs.LimitLaws.{state_limits}
-use Rattle.output.specs.Output.{samples_of, written}
-use Rattle.output.proofs.OutputLaws.{totals_fit, boxes_fit, beacons_fit, length_samples}
+use Rattle.samples.specs.Samples.{filled}
+use Rattle.output.specs.declared.Summary.{Summary}
+use Rattle.output.specs.Ended.{summary_of}
+use Rattle.output.specs.Output.{samples_of, beacon_rates_in, written}
+use Rattle.output.proofs.OutputLaws.{totals_fit, boxes_fit, beacons_fit, samples_fit, length_samples}
 use Rattle.output.proofs.write_packets.Goals as goal
 
 pub invariant_of-body : goal.invariant_of-body
@@ -21,10 +23,20 @@ invariant_of-body c =
       sum_fits = c.table_sum-sum.ensures.1;
     }
 
-pub write_beacon-requires-clause-each_below : goal.write_beacon-requires-clause-each_below
-write_beacon-requires-clause-each_below c =
+pub invariant_of-body-2 : goal.invariant_of-body-2
+invariant_of-body-2 c =
+    let i = c.args.s.now.interval in
     let w = (state_limits c.args.s.now c.requires.s_value.0).interval in
-    (beacons_fit _ c.args.s.now.interval w, ap (λ (s : Stamp). s.mark) c.stamp_of-stamp.ensures)
+    let f = samples_fit _ i w (filled c.args.slots.now) in
+    let e = c.requires.summary_value in
+    record {
+      beacons_fit = beacons_fit _ i w;
+      samples_fit = (
+        omega (arith, f.0, ap (λ (s : Summary). s.eligible) e),
+        omega (arith, f.1, ap (λ (s : Summary). s.replaced) e),
+        omega (arith, f.2, ap (λ (s : Summary). s.dropped) e),
+      );
+    }
 
 pub returns : goal.returns
 unfolding written
@@ -37,13 +49,15 @@ returns c =
     let sum = table_sum a.tables.now in
     let R : List ℕ = rate_packet stamp x.interval.totals x.interval.counts.boxes x.settings sum in
     let S : List ℕ = samples_of x.frame a.time a.slots.now a.span.first many in
-    let E : List ℕ = beacon_packet stamp x.interval.counts.beacons in
+    let E : List ℕ = beacon_packet stamp (beacon_rates_in (summary_of x a.slots.now)) in
     let x₂ : List ℕ = c.write_samples.new.out in
     let e₀ : c.write_rate.new.part ≡ R =
     c.write_rate.ensures
     ∙ (λ j. rate_packet (c.stamp_of-stamp.ensures j) x.interval.totals x.interval.counts.boxes x.settings (c.table_sum-sum.ensures.0 j)) in
     let eᵦ : c.write_beacon.new.part ≡ E =
-    c.write_beacon.ensures ∙ (λ j. beacon_packet (c.stamp_of-stamp.ensures j) x.interval.counts.beacons) in
+    c.write_beacon.ensures ∙ (λ j.
+    let k = c.requires.summary_value j in
+    beacon_packet (c.stamp_of-stamp.ensures j) (beacon_rates x.interval.counts.beacons k.eligible k.replaced k.dropped)) in
     let l₀ : length c.write_rate.new.part ≡ packet_bytes = search rules in
     let lᵦ : length c.write_beacon.new.part ≡ packet_bytes = search (rules, c.span_bytes-e.ensures) in
     let lr : length R ≡ packet_bytes = sym (ap length e₀) ∙ l₀ in

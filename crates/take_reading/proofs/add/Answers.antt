@@ -1,6 +1,6 @@
 -- The totals behind the index have their counts added, and the others are what they were.
 use Rattle.std.proofs.Common.{refl, ◌∙◌, arith, length-set, get_or-set_other, rules}
-use Rattle.wire.proofs.Pieces.{table_none, table_turn, table_end}
+use Rattle.wire.proofs.Pieces.{table_none, table_turn}
 use Rattle.take_reading.proofs.add.Goals as goal
 
 pub loop-i-init : goal.loop-i-init

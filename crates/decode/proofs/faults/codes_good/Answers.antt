@@ -1,7 +1,7 @@
 -- `codes_good` has tested, after i turns, the first i codes.
 use Rattle.std.specs.Prelude.{ℕ, ◌≡◌, ◌+◌, ◌*◌, ◌<◌, [], get_or}
 use Rattle.std.proofs.Common.{arith}
-use Rattle.std.proofs.Math.Path.{ap, ◌∙◌}
+use Rattle.std.proofs.Math.Path.{◌∙◌}
 use Rattle.wire.proofs.Bytes.{chunk_byte}
 use Rattle.wire.proofs.Pieces.{each_start, each_turn}
 use Rattle.rate_code.specs.Editions.{valid_of}

@@ -66,12 +66,16 @@ accepted : (l : In_ok-check)
     → let a = l.args in CloseAccepted a.state.now table_bytes staging_bytes a.slots.now (length a.out.now)
 accepted l = close_right l.args.state.now table_bytes staging_bytes l.args.slots.now (length l.args.out.now) (right_is l)
 
+pub summary_of-summary-requires : goal.summary_of-summary-requires
+summary_of-summary-requires c = (accepted (goal.at.summary_of-summary-requires c).In_ok-check).limits
+
 pub write_packets-requires : goal.write_packets-requires
 write_packets-requires c =
     let k = accepted (goal.at.write_packets-requires c).In_ok-check in
     let capacity = c.args.state.now.capacity in
     record {
       s_value = (k.limits, k.out_is ∙ sym (ap span_bytes c.close_span-span.ensures));
+      summary_value = c.summary_of-summary.ensures;
       many_in_bounds = rw c.close_span-span.ensures (
         omega (arith, k.lent.slots_are, slots_in_packets capacity),
         omega (arith, samples_byte capacity),

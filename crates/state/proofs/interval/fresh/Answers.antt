@@ -17,7 +17,7 @@ returns c =
     λ i. record {
       taken = 0;
       counts = record { boxes = zeros_are _ 116 b.long b.at i; beacons = zeros_are _ 12 n.long n.at i };
-      samples = record { used = 0; replaced = 0 };
+      samples = record { slots = record { used = 0; replaced = 0 }; eligible = 0 };
       readings = 0;
       totals = zeros 8;
     }
