@@ -300,8 +300,8 @@ ended t = record {
   interval = empty_interval;
 }
 
--- what a close returns: taken is the number of events, and so is each of the samples' counts (document 02, Point 7: "each count defined
--- from the events, not the record")
+-- what a close returns: taken is the number of events, and the counts of samples are worked out from the events as well (document 02,
+-- Point 7: "each count defined from the events, not the record")
 abbrev pub summary_for : Tally → Summary
 summary_for t = record {
   taken = length (events_of t);
