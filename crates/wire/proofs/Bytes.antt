@@ -6,10 +6,9 @@ use Rattle.std.proofs.Common.{get_or-append-add, get_or-take, get_or-drop}
 use Rattle.std.proofs.Math.ListN.{replicate-append-replicate, get_or-append}
 use Rattle.std.proofs.Math.Seq.{sets, sets-eq, paste-zero}
 use borrow.Rule.Slice.PartMut.{put_mid, Post-is}
-use Rattle.std.specs.Int.{w16, w32, to_be_bytes}
 use Rattle.std.specs.Simd.{first_chunks}
 use Rattle.std.proofs.lemmas.List.{take-append-drop}
-use Rattle.wire.specs.Bytes.{put, total, words, be16, be32, zeros}
+use Rattle.wire.specs.Bytes.{put, total, words, be32, zeros}
 pub use Rattle.wire.specs.NumberLaws.{put_inside, value16, value32}
 
 -- ---- a run put into a list
@@ -174,13 +173,7 @@ total_chunk n k i xs cs e h =
     let d : drop n ys ≡ drop (n * (i + 1)) xs = drop-drop n (n * i) xs ∙ ap (λ (m : ℕ). drop m xs) m in
     ap total (sym (take-append-drop n ys)) ∙ total_append (take n ys) (drop n ys) ∙ (λ j. total (c j) + total (d j))
 
--- ---- a number's bytes hold the number, and are the library's
+-- ---- a number's bytes hold the number
 
 pub value24 : (v : ℕ) → 65536 * (v / 65536) + 256 * (v / 256 % 256) + v % 256 ≡ v
 value24 v = omega arith
-
-pub bytes16 : (v : ℕ) → v < 65536 → to_be_bytes w16 v ≡ be16 v
-bytes16 v h = let e : v / 256 % 256 ≡ v / 256 = omega arith in rw e refl
-
-pub bytes32 : (v : ℕ) → v < 4294967296 → to_be_bytes w32 v ≡ be32 v
-bytes32 v h = let e : v / 16777216 % 256 ≡ v / 16777216 = omega arith in rw e refl

@@ -53,9 +53,9 @@ impl BigEndian for u16 {
 
     ghost reads = { reads16 };
 
-    #[tactic(auto, using(crate::proofs::Bytes::put_mid_lem, crate::proofs::Bytes::bytes16))]
     fn put(self, part: &mut [u8], at: usize) {
-        part[at..at + 2].copy_from_slice(&self.to_be_bytes());
+        part[at] = (self / 256) as u8;
+        part[at + 1] = (self % 256) as u8;
     }
 
     fn read(part: &[u8], at: usize) -> u16 {
@@ -72,9 +72,11 @@ impl BigEndian for u32 {
 
     ghost reads = { reads32 };
 
-    #[tactic(auto, using(crate::proofs::Bytes::put_mid_lem, crate::proofs::Bytes::bytes32))]
     fn put(self, part: &mut [u8], at: usize) {
-        part[at..at + 4].copy_from_slice(&self.to_be_bytes());
+        part[at] = (self / 16777216) as u8;
+        part[at + 1] = (self / 65536 % 256) as u8;
+        part[at + 2] = (self / 256 % 256) as u8;
+        part[at + 3] = (self % 256) as u8;
     }
 
     fn read(part: &[u8], at: usize) -> u32 {
