@@ -62,6 +62,13 @@ pub fn check(passes: bool, cause: Cause) -> Result<(), Cause>
     if passes { Ok(()) } else { Err(cause) }
 }
 
+// The same in numbers: the test's cause where it fails, and otherwise what the tests behind it say.
+pub fn unless(passes: bool, cause: u8, rest: u8) -> u8
+    ensures { result ≡ cond passes rest cause }
+{
+    if passes { rest } else { cause }
+}
+
 // The number that a call is answered: 0 where it is carried out, and otherwise that of its cause.
 pub fn call_number<T>(call: &Result<T, Cause>) -> u8
     ensures { result ≡ call_number call.now }

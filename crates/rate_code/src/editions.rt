@@ -1,7 +1,7 @@
 // Codes of either edition, and the marks of packets that have them.
 ghost use Rattle.std.specs.Prelude.{◌≡◌, true, ◌<◌};
 ghost use Rattle.rate_code.specs.Rate.{count_limit};
-ghost use Rattle.rate_code.specs.Editions.{mark_number, mark_from, edition_of, code_of, least_of, valid_of};
+ghost use Rattle.rate_code.specs.Editions.{mark_number, mark_from, edition_of, code_of, least_of, valid_of, code_by, least_by, valid_by};
 
 use crate::code::RateCode;
 use crate::first::First;
@@ -88,4 +88,27 @@ impl Edition {
             Edition::Second => Second::least_count(c),
         }
     }
+}
+
+// The code of a count, by the mark of its packet.
+pub fn encode(mark: u8, n: u32) -> u16
+    requires { n < count_limit }
+    ensures { result ≡ code_by mark n }
+{
+    Edition::from(mark).encode(n)
+}
+
+// Whether the code is one that a count can have, by the mark of its packet.
+pub fn valid(mark: u8, c: u16) -> bool
+    ensures { result ≡ valid_by mark c }
+{
+    Edition::from(mark).valid(c)
+}
+
+// The least count that has the code, by the mark of its packet.
+pub fn least_count(mark: u8, c: u16) -> u32
+    requires { valid_by mark c ≡ true }
+    ensures { result ≡ least_by mark c }
+{
+    Edition::from(mark).least_count(c)
 }
