@@ -3,13 +3,13 @@ ghost use Rattle.std.specs.Prelude.{◌≡◌, ◌<◌};
 ghost use Rattle.sort.specs.Columns.{mass_column, energy_column, u_of};
 ghost use Rattle.sort.specs.Sorting.{Words, WordsBelow, event_words};
 
-use crate::columns::{difference, floor_div};
+use crate::columns;
 use crate::ranged::Ranged;
 use std::marker::Model;
 use tables::{Tables, word};
 
 // The energy word and its offset, the time-of-flight word and its offset, each of 24 bits.
-#[derive(Drop)]
+#[derive(Clone, Copy)]
 pub struct EventWords {
     energy: u32,
     k: u32,
@@ -21,6 +21,8 @@ impl Model for EventWords {
     ghost Value = { Words };
 
     ghost view = { λ w. record { energy = w.energy; k = w.k; flight = w.flight; ktof = w.ktof } };
+
+    ghost inverse = { λ w. record { energy = w.energy; k = w.k; flight = w.flight; ktof = w.ktof } };
 
     ghost invariant = { λ w. WordsBelow 16777216 (record { energy = w.energy; k = w.k; flight = w.flight; ktof = w.ktof }) };
 }
@@ -57,20 +59,15 @@ impl EventWords {
         )
     }
 
-    #[tactic(auto, using(crate::proofs::ColumnLaws::columns))]
     pub fn mass_column(&self) -> i32
         ensures { result ≡ mass_column (u_of self.now.energy self.now.k self.now.flight self.now.ktof) }
     {
-        floor_div(
-            difference(self.energy + self.flight + 65536, self.k + self.ktof),
-            3584,
-        )
+        columns::mass_column(self.energy, self.k, self.flight, self.ktof)
     }
 
-    #[tactic(auto, using(crate::proofs::ColumnLaws::columns))]
     pub fn energy_column(&self) -> i32
         ensures { result ≡ energy_column self.now.flight self.now.ktof }
     {
-        floor_div(difference(self.ktof + 360448, self.flight), 4096)
+        columns::energy_column(self.flight, self.ktof)
     }
 }
