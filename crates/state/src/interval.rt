@@ -3,7 +3,7 @@ ghost use Rattle.std.specs.Prelude.{◌≡◌, ◌&&◌};
 ghost use Rattle.wire.specs.Lists.{all, at_most};
 ghost use Rattle.state.specs.Interval.{fresh_interval, counts_within, samples_within, readings_within, interval_within};
 
-use boxes::TOTALS;
+use boxes::{BEACONS, BOXES, TOTALS};
 use counts::Counts;
 use samples::selection::SampleUse;
 use samples::slots::SlotUse;
@@ -52,6 +52,34 @@ fn all_at_most(numbers: &[u32], limit: u32) -> bool
         ok = ok & (*number <= limit);
     }
     ok
+}
+
+// Whether taken is within its limit, and every box and beacon count at most taken, of counts that lie in no interval.
+pub fn counts_within<'a>(taken: u32, boxes: &'a [u32; BOXES], beacons: &'a [u32; BEACONS]) -> bool
+    ensures { result ≡ counts_within taken (record { boxes = boxes.now; beacons = beacons.now }) }
+{
+    (taken <= MOST_EVENTS) & all_at_most(boxes, taken) & all_at_most(beacons, taken)
+}
+
+// Whether the rest of such an interval is within its limits: eligible events, used and replaced slots, of which there are so many,
+// readings and their totals.
+pub fn rest_within(
+    slots: usize,
+    taken: u32,
+    u: SampleUse,
+    readings: u32,
+    totals: &[u32; TOTALS],
+) -> bool
+    ensures { result ≡ (samples_within slots taken u && readings_within readings totals.now) }
+{
+    let parts = Interval {
+        taken,
+        counts: Counts::default(),
+        samples: u,
+        readings,
+        totals: *totals,
+    };
+    parts.samples_within(slots) & parts.readings_within()
 }
 
 impl Interval {
