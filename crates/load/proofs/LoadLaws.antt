@@ -38,10 +38,22 @@ packing_small TwoBytes = refl
 
 -- ---- how many words
 
+-- the third way to pack
+pub width_two : (y : ℕ) → (y ≡ 0 → ⊥) → (y ≡ 1 → ⊥) → word_width y ≡ 2
+width_two zero h g = absurd (h refl)
+width_two (suc zero) h g = absurd (g refl)
+width_two (suc (suc y)) h g = refl
+
 pub width_small : (y : ℕ) → word_width y ≤ 3
 width_small zero = omega arith
 width_small (suc zero) = omega arith
 width_small (suc (suc y)) = omega arith
+
+-- no more words than bytes
+pub words_few : (y n : ℕ) → load_words y n ≤ n
+words_few zero n = omega arith
+words_few (suc zero) n = omega arith
+words_few (suc (suc y)) n = omega arith
 
 -- some bytes make some words
 pub words_some : (y n : ℕ) → 1 ≤ n → 1 ≤ load_words y n

@@ -4,7 +4,7 @@ use Rattle.wire.proofs.Bytes.{length_part, length_put}
 use Rattle.wire.proofs.Lists.{and_left, and_right, and_split}
 use Rattle.causes.specs.Causes.{carried_out, package_form, past_staging, package_sum}
 use Rattle.load.specs.Staging.{staging_bytes, count_field, payload_bytes, payload, formed, fits, placeable}
-use Rattle.load.specs.Staging.{staging_after, addresses_after, fresh_addresses, addresses_within}
+use Rattle.load.specs.Staging.{received_sum, computed_sum, package_number, staging_after, addresses_after, fresh_addresses, addresses_within}
 use Rattle.load.specs.declared.staging.Addresses.{Addresses}
 
 -- what a well formed package is
@@ -41,6 +41,12 @@ number_by_lem : (a b c : Bool) (k : ℕ) → cond a (cond b (cond c carried_out 
 number_by_lem true true c k e n8 n9 = refl
 number_by_lem true false c k e n8 n9 = absurd (n9 (sym e))
 number_by_lem false b c k e n8 n9 = absurd (n8 (sym e))
+
+pub number_placeable : (p : List ℕ) (next : ℕ) → (package_number p next ≡ package_form → ⊥) → (package_number p next ≡ past_staging → ⊥)
+    → placeable p next ≡ true
+unfolding package_number
+number_placeable p next n8 n9 =
+    number_by_lem (formed p) (fits p next) (eqb (received_sum p) (computed_sum p)) (package_number p next) refl n8 n9
 
 -- staging keeps its length
 pub length_staging_after : (staging p : List ℕ) (next : ℕ) → length staging ≡ staging_bytes → placeable p next ≡ true

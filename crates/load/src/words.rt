@@ -53,6 +53,20 @@ impl From<u8> for Packing {
     }
 }
 
+// How many bytes go into a word, of any y.
+pub fn word_width(y: u8) -> usize
+    ensures { (result ≡ word_width y) × (1 ≤ result) × (result ≤ 3) }
+{
+    Packing::from(y).width()
+}
+
+// How many words the bytes make, of any y, a short last one counted.
+pub fn load_words(y: u8, reach: u32) -> usize
+    ensures { result ≡ load_words y reach }
+{
+    Packing::from(y).words(reach)
+}
+
 // Whether a load of the reach is lawful: a way to pack, at least one byte, and all words within the tables. It takes any y, since the
 // state may hold one that stands for no way to pack.
 pub fn load_lawful(a: u32, y: u8, reach: u32) -> bool
