@@ -7,20 +7,12 @@ use Rattle.wire.proofs.Lists.{decide}
 use Rattle.wire.proofs.WordLaws.{same_words}
 use Rattle.command.specs.Grammar.{lookup_keyword, with_one, with_two, with_three, argument_of}
 use Rattle.command.specs.Grammar.{one_argument, two_arguments, three_arguments, of_words}
-use Rattle.command.specs.Parsing.{keyword_of, arguments_in, one_of, two_of, three_of, with_arguments}
+use Rattle.command.specs.Parsing.{keyword_of, arguments_in, one_of, two_of, three_of, answered}
 use Rattle.command.specs.declared.command.Setting.TheVariants.{Limhi, Eonly, Toferror, Junk, Hv, Hvstep}
-use Rattle.command.specs.declared.command.Line.{Line}
 use Rattle.command.specs.declared.command.Line.TheVariants.{Wrong}
 use Rattle.command.specs.declared.keyword.Keyword.{Keyword}
 use Rattle.command.specs.declared.keyword.Keyword.TheVariants.{Sets, Load as load_word, LoadAt as loadat_word, Ask as ask_word, Commit as commit_word}
-use Rattle.command.specs.declared.keyword.Arguments.{Arguments}
 use Rattle.command.specs.declared.ranges.Ranges.{Ranges}
-
--- the line of a keyword and its arguments, where there are such
-abbrev pub answered : Option Keyword → Option Arguments → Ranges → Line
-answered None y ranges = Wrong
-answered (Some x) None ranges = Wrong
-answered (Some x) (Some y) ranges = with_arguments x y ranges
 
 -- each keyword's word
 abbrev word_of : Keyword → List ℕ
@@ -149,19 +141,15 @@ unknown_none : (k : List ℕ) → Unknown k → keyword_of k ≡ None
 unfolding keyword_of
 unknown_none k u = rw (u.not_limhi, u.not_eonly, u.not_toferror, u.not_junk, u.not_hv, u.not_hvstep, u.not_load, u.not_loadat, u.not_ask, u.not_commit)
 
--- ---- any line
+-- ---- any word
 
-module _ (k : List ℕ) (ws : List (List ℕ)) (ranges : Ranges) where
-  Goes : Type 0
-  Goes = of_words (k ∷ ws) ranges ≡ answered (keyword_of k) (arguments_in ws) ranges
+-- what holds for each keyword's word, and for a word that is none of them, holds for any
+module _ (P : List ℕ → Type 0) (k : List ℕ) (each : (x : Keyword) → P (word_of x)) (other : Unknown k → P k) where
+  begins : (x : Keyword) → same k (word_of x) ≡ true → P k
+  begins x e = rw (same_words k (word_of x) e) (each x)
 
-  begins : (x : Keyword) → same k (word_of x) ≡ true → Goes
-  unfolding Goes
-  begins x e = rw (same_words k (word_of x) e) (rw (named_is x) (known x ws ranges))
-
-  pub asked_is : of_words (k ∷ ws) ranges ≡ answered (keyword_of k) (arguments_in ws) ranges
-  unfolding Goes
-  asked_is =
+  any_word : P k
+  any_word =
       decide (same k (text "limhi")) (begins (Sets Limhi)) (λ e0.
       decide (same k (text "eonly")) (begins (Sets Eonly)) (λ e1.
       decide (same k (text "toferror")) (begins (Sets Toferror)) (λ e2.
@@ -172,5 +160,31 @@ module _ (k : List ℕ) (ws : List (List ℕ)) (ranges : Ranges) where
       decide (same k (text "loadat")) (begins loadat_word) (λ e7.
       decide (same k (text "ask")) (begins ask_word) (λ e8.
       decide (same k (text "commit")) (begins commit_word) (λ e9.
-      let u : Unknown k = record { not_limhi = e0; not_eonly = e1; not_toferror = e2; not_junk = e3; not_hv = e4; not_hvstep = e5; not_load = e6; not_loadat = e7; not_ask = e8; not_commit = e9 } in
-      rw (unknown_none k u) (unknown k u ranges ws)))))))))))
+      other record { not_limhi = e0; not_eonly = e1; not_toferror = e2; not_junk = e3; not_hv = e4; not_hvstep = e5; not_load = e6; not_loadat = e7; not_ask = e8; not_commit = e9 }))))))))))
+
+pub one_is : (k : List ℕ) (a : Option ℕ) (ranges : Ranges) → one_argument k a ranges ≡ answered (keyword_of k) (one_of a) ranges
+one_is k a ranges =
+    any_word (λ k. one_argument k a ranges ≡ answered (keyword_of k) (one_of a) ranges) k
+    (λ x. rw (named_is x) (one_known x a ranges))
+    (λ u. rw (unknown_none k u) (one_unknown k u ranges a))
+
+pub two_is : (k : List ℕ) (a b : Option ℕ) (ranges : Ranges) → two_arguments k a b ranges ≡ answered (keyword_of k) (two_of a b) ranges
+two_is k a b ranges =
+    any_word (λ k. two_arguments k a b ranges ≡ answered (keyword_of k) (two_of a b) ranges) k
+    (λ x. rw (named_is x) (two_known x a b ranges))
+    (λ u. rw (unknown_none k u) (two_unknown k u ranges a b))
+
+pub three_is : (k : List ℕ) (a b c : Option ℕ) (ranges : Ranges)
+    → three_arguments k a b c ranges ≡ answered (keyword_of k) (three_of a b c) ranges
+three_is k a b c ranges =
+    any_word (λ k. three_arguments k a b c ranges ≡ answered (keyword_of k) (three_of a b c) ranges) k
+    (λ x. rw (named_is x) (three_known x a b c ranges))
+    (λ u. rw (unknown_none k u) (three_unknown k u ranges a b c))
+
+-- ---- any line
+
+pub asked_is : (k : List ℕ) (ws : List (List ℕ)) (ranges : Ranges) → of_words (k ∷ ws) ranges ≡ answered (keyword_of k) (arguments_in ws) ranges
+asked_is k ws ranges =
+    any_word (λ k. of_words (k ∷ ws) ranges ≡ answered (keyword_of k) (arguments_in ws) ranges) k
+    (λ x. rw (named_is x) (known x ws ranges))
+    (λ u. rw (unknown_none k u) (unknown k u ranges ws))

@@ -76,3 +76,9 @@ with_arguments ask_word (Three n m l) ranges = Wrong
 with_arguments commit_word (One n) ranges = Wrong
 with_arguments commit_word (Two n m) ranges = Wrong
 with_arguments commit_word (Three a y n) ranges = right_if (load_lawful a y ranges.reach) (Commit a y n)
+
+-- the line of a keyword and its arguments, where there are such
+abbrev pub answered : Option Keyword → Option Arguments → Ranges → Line
+answered None y ranges = Wrong
+answered (Some x) None ranges = Wrong
+answered (Some x) (Some y) ranges = with_arguments x y ranges

@@ -1,8 +1,9 @@
 // Keywords, and the lines that they make of arguments, each in its range.
 ghost use Rattle.std.specs.Prelude.{◌≡◌};
 ghost use Rattle.wire.specs.Words.{same};
-ghost use Rattle.command.specs.Grammar.{set_line};
+ghost use Rattle.command.specs.Grammar.{set_line, one_argument, two_arguments, three_arguments};
 ghost use Rattle.command.specs.Parsing.{keyword_of, or_wrong, with_arguments, lawful_packing};
+ghost use Rattle.command.specs.Parsing.{one_of, two_of, three_of, answered};
 
 use crate::command::{Line, Setting};
 use crate::ranges::Ranges;
@@ -86,6 +87,66 @@ impl Keyword {
             _ => None,
         }
     }
+}
+
+impl Arguments {
+    // One argument, where it is a number.
+    fn one(n: Option<u32>) -> Option<Arguments>
+        ensures { result ≡ one_of n }
+    {
+        Some(Arguments::One(n?))
+    }
+
+    // Two, where both are.
+    fn two(n: Option<u32>, m: Option<u32>) -> Option<Arguments>
+        ensures { result ≡ two_of n m }
+    {
+        Some(Arguments::Two(n?, m?))
+    }
+
+    // Three, where all are.
+    fn three(n: Option<u32>, m: Option<u32>, l: Option<u32>) -> Option<Arguments>
+        ensures { result ≡ three_of n m l }
+    {
+        Some(Arguments::Three(n?, m?, l?))
+    }
+}
+
+// The line of a word that is a keyword, and its arguments, where there are such.
+fn answered(word: &[u8], arguments: Option<Arguments>, ranges: Ranges) -> Option<Line>
+    ensures { or_wrong result ≡ answered (keyword_of word.now) arguments ranges }
+{
+    Keyword::named(word)?.with(arguments?, ranges)
+}
+
+// The line of a keyword with one argument.
+#[tactic(auto, using(crate::proofs::KeywordLaws::one_is))]
+pub fn one_argument(keyword: &[u8], n: Option<u32>, ranges: Ranges) -> Line
+    ensures { result ≡ one_argument keyword.now n ranges }
+{
+    answered(keyword, Arguments::one(n), ranges).unwrap_or(Line::Wrong)
+}
+
+// The line of a keyword with two arguments.
+#[tactic(auto, using(crate::proofs::KeywordLaws::two_is))]
+pub fn two_arguments(keyword: &[u8], n: Option<u32>, m: Option<u32>, ranges: Ranges) -> Line
+    ensures { result ≡ two_arguments keyword.now n m ranges }
+{
+    answered(keyword, Arguments::two(n, m), ranges).unwrap_or(Line::Wrong)
+}
+
+// The line of a keyword with three arguments.
+#[tactic(auto, using(crate::proofs::KeywordLaws::three_is))]
+pub fn three_arguments(
+    keyword: &[u8],
+    n: Option<u32>,
+    m: Option<u32>,
+    l: Option<u32>,
+    ranges: Ranges,
+) -> Line
+    ensures { result ≡ three_arguments keyword.now n m l ranges }
+{
+    answered(keyword, Arguments::three(n, m, l), ranges).unwrap_or(Line::Wrong)
 }
 
 // The line that sets the setting to n.

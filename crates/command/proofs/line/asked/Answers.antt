@@ -2,9 +2,9 @@
 use Rattle.std.proofs.Common.{◌≡◌, ℕ, List, ◌∷◌, sym, ap, ◌∙◌}
 use Rattle.std.specs.Prelude.{Option, Some, None}
 use Rattle.command.specs.Grammar.{line_words, of_words}
-use Rattle.command.specs.Parsing.{keyword_of, arguments_in, or_wrong}
+use Rattle.command.specs.Parsing.{keyword_of, arguments_in, or_wrong, answered}
 use Rattle.command.specs.declared.keyword.Keyword.{Keyword}
-use Rattle.command.proofs.KeywordLaws.{answered, asked_is}
+use Rattle.command.proofs.KeywordLaws.{asked_is}
 use Rattle.command.proofs.line.asked.Goals.{In_ok-word}
 use Rattle.command.proofs.line.asked.Goals as goal
 
