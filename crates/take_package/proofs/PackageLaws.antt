@@ -11,6 +11,7 @@ use Rattle.command_list.specs.CommandList.{load_waits}
 use Rattle.state.specs.declared.State.{State}
 use Rattle.state.specs.Limits.{within_limits}
 use Rattle.take_package.specs.Package.{package_lent, package_call_checks, package_call_number, is_staged}
+use Rattle.take_package.specs.Judged.{number_of}
 
 -- whatever it is judged sound and waiting by; and its number tells whether its sum is right
 pub record Passed (sound waits : Bool) (p : List ℕ) (next n : ℕ) : Type 0 where
@@ -72,3 +73,19 @@ package_staged s p staging bitmap echo h =
       is_formed = k.is_formed;
       is_placeable = rw (k.is_formed, k.is_fitting);
     }
+
+-- a buffer of another length is refused, whatever else applies
+pub other_lengths : (s : State) (p : List ℕ) (staging bitmap echo : ℕ) → package_lent staging bitmap echo ≡ false
+    → package_call_number s p staging bitmap echo ≡ cause.buffer_or_state
+unfolding package_call_number
+other_lengths s p staging bitmap echo h = rw h (go (within_limits s) _)
+  where
+    go : (b : Bool) (n : ℕ) → cond (b && false) n 1 ≡ 1
+    go true n = refl
+    go false n = refl
+
+-- and where each has its own, the number is that of such a call
+pub right_lengths : (s : State) (p : List ℕ) (staging bitmap echo : ℕ) → package_lent staging bitmap echo ≡ true
+    → package_call_number s p staging bitmap echo ≡ number_of s p
+unfolding package_call_number
+right_lengths s p staging bitmap echo h = rw h

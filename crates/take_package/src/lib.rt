@@ -2,18 +2,18 @@
 #![tactic(auto)]
 
 ghost use Rattle.std.specs.Prelude.{◌≡◌, true, cond};
-ghost use Rattle.causes.specs.Causes.{carried_out, package_sum};
+ghost use Rattle.causes.specs.Causes.{call_number, carried_out, package_sum};
 ghost use Rattle.load.specs.Bitmap.{bitmap_after};
 ghost use Rattle.load.specs.Staging.{payload_bytes, fits, staging_after, addresses_after};
 ghost use Rattle.state.specs.State.{with_staging};
-ghost use Rattle.take_package.specs.Package.{staged_echo};
+ghost use Rattle.take_package.specs.Package.{package_lent, package_call_number, staged_echo};
 ghost use Rattle.take_package.specs.Judged.{JudgedAs};
 
-use causes::{Cause, check};
-use echo::Echo;
-use load::bitmap::Bitmap;
+use causes::{Cause, call_number, check};
+use echo::{ECHO_BYTES, Echo};
+use load::bitmap::{BITMAP_BYTES, Bitmap};
 use load::package::Package;
-use load::staging::Staging;
+use load::staging::{STAGING_BYTES, Staging};
 use state::State;
 
 // The package, where it is staged: its sum may be wrong.
@@ -26,6 +26,36 @@ pub fn judge<'a>(state: &State, bytes: &'a [u8]) -> Result<Package<'a>, Cause>
     let sent = Package::parse(bytes)?;
     check(sent.fits(state.staging.next), Cause::PastStaging)?;
     Ok(sent)
+}
+
+// Whether staging, bitmap and echo have their lengths.
+fn is_lent(staging: usize, bitmap: usize, echo: usize) -> bool
+    ensures { result ≡ package_lent staging bitmap echo }
+{
+    (staging == STAGING_BYTES) & (bitmap == BITMAP_BYTES) & (echo == ECHO_BYTES)
+}
+
+// Why the call is refused, from the lengths of staging, bitmap and echo: also for a wrong sum, for which a package is staged.
+#[tactic(auto, using(crate::proofs::PackageLaws::other_lengths, crate::proofs::PackageLaws::right_lengths))]
+fn judge_call(
+    state: &State,
+    bytes: &[u8],
+    staging: usize,
+    bitmap: usize,
+    echo: usize,
+) -> Result<(), Cause>
+    ensures { call_number result ≡ package_call_number state.now bytes.now staging bitmap echo }
+{
+    check(is_lent(staging, bitmap, echo), Cause::BufferOrState)?;
+    let sent = judge(state, bytes)?;
+    check(sent.sum_right(), Cause::PackageSum)
+}
+
+// The call's number, from the lengths of staging, bitmap and echo.
+pub fn package_number(state: &State, bytes: &[u8], staging: usize, bitmap: usize, echo: usize) -> u8
+    ensures { result ≡ package_call_number state.now bytes.now staging bitmap echo }
+{
+    call_number(&judge_call(state, bytes, staging, bitmap, echo))
 }
 
 // The echo of a package that is staged, with OK or with both sums where its sum is wrong. Whether it is, is handed on: the sum of
