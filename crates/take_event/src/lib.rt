@@ -13,13 +13,13 @@ ghost use Rattle.state.specs.Limits.{within_limits};
 ghost use Rattle.state.specs.State.{with_interval};
 ghost use Rattle.take_event.specs.Event.{event_number, interval_taken};
 
-use causes::{Cause, check};
+use causes::{Cause, call_number, check};
 use sort::event::Event;
 use sort::ranged::Ranged;
 use state::State;
 use state::interval::MOST_EVENTS;
 use state::limits::within_limits;
-use tables::Tables;
+use tables::{TABLE_BYTES, Tables};
 
 // Whether the event is taken where the tables have their length, by the number of slots.
 #[tactic(auto, unfolding(crate::specs::Event::event_number))]
@@ -49,6 +49,17 @@ pub fn judge<'a>(
     };
     judge_event(state, slots, event)?;
     Ok(tables)
+}
+
+// The call's number, from the lengths of the tables and the slots.
+#[tactic(auto, using(crate::proofs::EventLaws::other_tables))]
+pub fn event_number(state: &State, tables: usize, slots: usize, event: Event) -> u8
+    ensures { result ≡ event_number state.now tables slots event }
+{
+    if tables != TABLE_BYTES {
+        return Cause::BufferOrState.number();
+    }
+    call_number(&judge_event(state, slots, event))
 }
 
 // One event more in the state and the slots. Any state may be lent: its limits are judged before, and are no invariant.
