@@ -35,7 +35,7 @@ fn is_lent(staging: usize, bitmap: usize, echo: usize) -> bool
     (staging == STAGING_BYTES) & (bitmap == BITMAP_BYTES) & (echo == ECHO_BYTES)
 }
 
-// Why the call is refused, from the lengths of staging, bitmap and echo: also for a wrong sum, for which a package is staged.
+// Why the call is not answered 0, from the lengths of staging, bitmap and echo: for a wrong sum too, whose package is staged.
 #[tactic(auto, using(crate::proofs::PackageLaws::other_lengths, crate::proofs::PackageLaws::right_lengths))]
 fn judge_call(
     state: &State,
