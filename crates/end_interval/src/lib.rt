@@ -3,23 +3,23 @@
 
 ghost use Rattle.std.specs.Prelude.{◌≡◌, true, length};
 ghost use Rattle.wire.specs.Bytes.{zeros};
-ghost use Rattle.tables.specs.Tables.{table_bytes};
-ghost use Rattle.load.specs.Staging.{staging_bytes};
 ghost use Rattle.state.specs.Limits.{within_limits};
 ghost use Rattle.output.specs.Ended.{summary_of};
 ghost use Rattle.end_interval.specs.End.{endable, state_ended, tables_ended};
 
 use command_list::CommandList;
-use load::staging::Staging;
+use load::staging::{STAGING_BYTES, Staging};
 use output::Summary;
 use state::State;
-use tables::Tables;
+use tables::TABLE_BYTES;
 
-// Whether the state is within its limits, there are as many slots as it says, and each slot is zero or of a box.
-pub fn endable(state: &State, slots: &[u32]) -> bool
-    ensures { result ≡ endable state.now table_bytes staging_bytes slots.now }
+// Whether the state is within its limits, what is lent beside the output has its length, and each slot is zero or of a box.
+pub fn endable(state: &State, tables: usize, staging: usize, slots: &[u32]) -> bool
+    ensures { result ≡ endable state.now tables staging slots.now }
 {
-    let lent = (slots.len() == capacity::numbers_of(state.capacity).slots)
+    let lent = (tables == TABLE_BYTES)
+        & (staging == STAGING_BYTES)
+        & (slots.len() == capacity::numbers_of(state.capacity).slots)
         & samples::at_close::all_good(slots);
     state::limits::within_limits(state) & lent
 }
@@ -58,12 +58,18 @@ fn begin_next(state: &mut State)
 }
 
 // The waiting commands run, on settings and tables; counts and slots become zero.
-pub fn end(state: &mut State, tables: &mut Tables, staging: &Staging, slots: &mut [u32])
-    requires { endable state.old table_bytes staging_bytes slots.old ≡ true }
+pub fn end(state: &mut State, tables: &mut [u8], staging: &[u8], slots: &mut [u32])
+    requires { endable state.old (length tables.old) (length staging.now) slots.old ≡ true }
     ensures state { state.new ≡ state_ended state.old }
     ensures tables { tables.new ≡ tables_ended state.old tables.old staging.now }
     ensures slots { slots.new ≡ zeros (length slots.old) }
 {
+    let Some(tables) = tables.as_mut_array() else {
+        unreachable!()
+    };
+    let Ok(staging) = <&Staging>::try_from(staging) else {
+        unreachable!()
+    };
     let ranges = state::limits::ranges_of(state);
     state.commands.run_loads(tables, staging, ranges);
     samples::at_close::clear(slots);

@@ -3,7 +3,9 @@
 
 ghost use Rattle.std.specs.Prelude.{◌≡◌, true, ◌+◌, ◌*◌, ◌≤◌, ◌<◌, length};
 ghost use Rattle.wire.specs.Bytes.{put};
+ghost use Rattle.tables.specs.Tables.{table_bytes};
 ghost use Rattle.packet.specs.Packet.{packet_bytes};
+ghost use Rattle.packet.specs.TableSum.{table_sum};
 ghost use Rattle.state.specs.Limits.{within_limits};
 ghost use Rattle.output.specs.Ended.{summary_of, ended_in};
 ghost use Rattle.output.specs.Output.{whole_span, span_bytes, samples_of, written};
@@ -15,7 +17,6 @@ use packet::stamp::stamp_of;
 use packet::write::{BeaconBody, RateBody, write_beacon, write_rate};
 use rate_code::editions::Mark;
 use state::State;
-use tables::Tables;
 
 // What a close returns of the interval that it ended.
 #[derive(Clone, Copy)]
@@ -71,24 +72,35 @@ fn write_samples(out: &mut [u8], frame: u16, time: u32, slots: &[u32], s: Span)
     }
 }
 
+// The sum of the table words. Apart, since no array is named where sample packets are written.
+fn sum_of(tables: &[u8]) -> u32
+    requires { length tables.now ≡ table_bytes }
+    ensures { (result ≡ table_sum tables.now) × (result < 16777216) }
+{
+    let Some(tables) = tables.as_array() else {
+        unreachable!()
+    };
+    packet::table_sum::table_sum(tables)
+}
+
 // The packets of the state's interval, which ends at this time with these tables and slots; `summary` is what the close returns of
 // it, and the counts are lent where they lie. Any state may be lent, so that its limits are judged before and are no invariant; so it
 // is in the other crates of a call.
 pub fn write_packets(
     s: &State,
     time: u32,
-    tables: &Tables,
+    tables: &[u8],
     slots: &[u32],
     summary: &Summary,
     span: Span,
     out: &mut [u8],
 )
-    requires s_value { (within_limits s.now ≡ true) × (length out.old ≡ span_bytes span) }
+    requires s_value { (within_limits s.now ≡ true) × (length tables.now ≡ table_bytes) × (length out.old ≡ span_bytes span) }
     requires summary_value { summary.now ≡ summary_of s.now slots.now }
     requires many_in_bounds { (64 * span.many ≤ length slots.now) × (span.first + span.many < 256) }
     ensures { out.new ≡ written (ended_in s.now time tables.now slots.now) span }
 {
-    let sum = packet::table_sum::table_sum(tables);
+    let sum = sum_of(tables);
     // `as`: by `number` the proof did not close.
     let stamp = stamp_of(s.frame, time, Mark::Second as u8);
     let body = RateBody {

@@ -106,18 +106,9 @@ module _ (s : State) (p staging bitmap echo : List ℕ) where
 
 -- ---- a close
 
-tables_fail : (w b c d o : Bool) (t m : ℕ) → (t ≡ m → ⊥) → (w && (eqb t m && b && c && d) && o) ≡ false
-tables_fail true b c d o t m h = rw (ne_eqb t m h)
-tables_fail false b c d o t m h = refl
-
-staging_fails : (w a c d o : Bool) (t m : ℕ) → (t ≡ m → ⊥) → (w && (a && eqb t m && c && d) && o) ≡ false
-staging_fails true true c d o t m h = rw (ne_eqb t m h)
-staging_fails true false c d o t m h = refl
-staging_fails false a c d o t m h = refl
-
 module _ (s : State) (time : ℕ) (tables staging slots out : List ℕ) where
-  abbrev close_sound : (tables staging : ℕ) → Bool
-  close_sound t n = endable s t n slots && out_right s.capacity (length out)
+  abbrev close_sound : Bool
+  close_sound = endable s (length tables) (length staging) slots && out_right s.capacity (length out)
 
   abbrev pub close_left : CloseDone
   close_left = record {
@@ -135,23 +126,13 @@ module _ (s : State) (time : ℕ) (tables staging slots out : List ℕ) where
     out = written (ended_in s time tables slots) (close_span s.capacity);
   }
 
-  close_unlent : close_sound (length tables) (length staging) ≡ false → close_left ≡ close_done s time tables staging slots out
+  pub close_refused : close_sound ≡ false → close_left ≡ close_done s time tables staging slots out
   unfolding close_done close_number
-  close_unlent h = rw h
+  close_refused h = rw h
 
-  pub other_tables : (length tables ≡ table_bytes → ⊥) → close_left ≡ close_done s time tables staging slots out
-  other_tables h = close_unlent (tables_fail (within_limits s) _ _ _ _ (length tables) table_bytes h)
-
-  pub other_staging : (length staging ≡ staging_bytes → ⊥) → close_left ≡ close_done s time tables staging slots out
-  other_staging h = close_unlent (staging_fails (within_limits s) _ _ _ _ (length staging) staging_bytes h)
-
-  module _ (a : length tables ≡ table_bytes) (b : length staging ≡ staging_bytes) where
-    pub close_refused : close_sound table_bytes staging_bytes ≡ false → close_left ≡ close_done s time tables staging slots out
-    close_refused h = close_unlent (rw (a, b) h)
-
-    pub close_carried : close_sound table_bytes staging_bytes ≡ true → close_ended ≡ close_done s time tables staging slots out
-    unfolding close_done close_number
-    close_carried h = rw (a, b, h)
+  pub close_carried : close_sound ≡ true → close_ended ≡ close_done s time tables staging slots out
+  unfolding close_done close_number
+  close_carried h = rw h
 
 -- ---- a line
 

@@ -1,13 +1,10 @@
 // The end of an interval: judged, packets, ended.
 ghost use Rattle.std.specs.Prelude.{◌≡◌, ◌&&◌, IfOk};
 ghost use Rattle.causes.specs.Causes.{call_number};
-ghost use Rattle.tables.specs.Tables.{table_bytes};
-ghost use Rattle.load.specs.Staging.{staging_bytes};
 ghost use Rattle.end_interval.specs.End.{endable};
 ghost use Rattle.processor.specs.Close.{close_span, out_right, close_done};
 
 use causes::{Cause, check};
-use load::staging::Staging;
 use output::{Span, Summary};
 use state::State;
 
@@ -18,12 +15,12 @@ fn close_span(state: &State) -> Span
     output::whole_span(capacity::numbers_of(state.capacity))
 }
 
-// Whether the interval is ended, by the length of the output.
-fn is_right(state: &State, slots: &[u32], out: usize) -> bool
-    ensures { result ≡ endable state.now table_bytes staging_bytes slots.now && out_right state.now.capacity out }
+// Whether the interval is ended, by the lengths of tables, staging and output.
+fn is_right(state: &State, tables: usize, staging: usize, slots: &[u32], out: usize) -> bool
+    ensures { result ≡ endable state.now tables staging slots.now && out_right state.now.capacity out }
 {
     let right = out == output::span_bytes(close_span(state));
-    end_interval::endable(state, slots) & right
+    end_interval::endable(state, tables, staging, slots) & right
 }
 
 // The end of the interval: 1, or its counts, with the packets written, the waiting commands run, and counts and slots zero.
@@ -49,13 +46,10 @@ pub fn close(
     ensures out { out.new
         ≡ (close_done state.old time tables.old staging.now slots.old out.old).out }
 {
-    let Some(tables) = tables.as_mut_array() else {
-        return Err(Cause::BufferOrState);
-    };
-    let Ok(staging) = <&Staging>::try_from(staging) else {
-        return Err(Cause::BufferOrState);
-    };
-    check(is_right(state, slots, out.len()), Cause::BufferOrState)?;
+    check(
+        is_right(state, tables.len(), staging.len(), slots, out.len()),
+        Cause::BufferOrState,
+    )?;
     let summary = end_interval::summary_of(state, slots);
     let span = close_span(state);
     output::write_packets(state, time, tables, slots, &summary, span, out);

@@ -20,7 +20,7 @@ invariant_of-body c =
     record {
       totals_fit = totals_fit _ c.args.s.now.interval w;
       boxes_fit = boxes_fit _ c.args.s.now.interval w;
-      sum_fits = c.table_sum-sum.ensures.1;
+      sum_fits = c.sum_of-sum.ensures.1;
     }
 
 pub invariant_of-body-2 : goal.invariant_of-body-2
@@ -53,7 +53,7 @@ returns c =
     let x₂ : List ℕ = c.write_samples.new.out in
     let e₀ : c.write_rate.new.part ≡ R =
     c.write_rate.ensures
-    ∙ (λ j. rate_packet (c.stamp_of-stamp.ensures j) x.interval.totals x.interval.counts.boxes x.settings (c.table_sum-sum.ensures.0 j)) in
+    ∙ (λ j. rate_packet (c.stamp_of-stamp.ensures j) x.interval.totals x.interval.counts.boxes x.settings (c.sum_of-sum.ensures.0 j)) in
     let eᵦ : c.write_beacon.new.part ≡ E =
     c.write_beacon.ensures ∙ (λ j.
     let k = c.requires.summary_value j in

@@ -1,25 +1,26 @@
--- Buffers of another length are left as they were. A close that is judged right has what its packets and `end` require.
+-- A close that is judged wrong leaves all as it was. One that is judged right has what its packets and `end` require.
 use Rattle.std.proofs.Common.{◌≡◌, sym, ap, ◌∙◌, true, false, ◌&&◌, arith, rules, length}
 use Rattle.causes.specs.declared.Cause.{Cause}
 use Rattle.causes.specs.declared.Cause.TheVariants.{BufferOrState}
 use Rattle.causes.specs.Causes.{cause_number, call_number}
-use Rattle.tables.specs.Tables.{table_bytes}
-use Rattle.load.specs.Staging.{staging_bytes}
 use Rattle.capacity.proofs.NumberLaws.{slots_in_packets, samples_byte}
 use Rattle.output.specs.Output.{span_bytes}
 use Rattle.end_interval.specs.End.{endable}
 use Rattle.processor.specs.Close.{CloseDone, out_right}
 use Rattle.processor.proofs.CallLaws.{CloseAccepted, close_right}
-use Rattle.processor.proofs.Lent.{failed, passed, other_tables, other_staging, close_refused, close_carried}
+use Rattle.processor.proofs.Lent.{failed, passed, close_refused, close_carried}
 use Rattle.processor.proofs.close.close.Goals.{In_ok-check}
 use Rattle.processor.proofs.close.close.Goals as goal
 
-pub returns-in_default : goal.returns-in_default
-returns-in_default c =
+pub returns-in_err-check : goal.returns-in_err-check
+returns-in_err-check c =
     let a = c.args in
-    let e = other_tables a.state.now a.time a.tables.now a.staging.now a.slots.now a.out.now c.in_default.ensures.cases in
+    let x : Cause = c.in_err-check.field-0.0 in
+    let f : (c.is_right.result ≡ false) × (x ≡ BufferOrState) = failed c.is_right.result _ _ x c.check.result c.check.ensures c.in_err-check.was in
+    let n : call_number c.from_residual.result ≡ cause_number x = search rules in
+    let e = close_refused a.state.now a.time a.tables.now a.staging.now a.slots.now a.out.now (sym c.is_right.ensures ∙ f.0) in
     record {
-      number = ap (λ (d : CloseDone). d.answer.number) e;
+      number = n ∙ ap cause_number f.1 ∙ ap (λ (d : CloseDone). d.answer.number) e;
       state = ap (λ (d : CloseDone). d.answer.state) e;
       summary = search rules;
       tables = ap (λ (d : CloseDone). d.tables) e;
@@ -27,44 +28,17 @@ returns-in_default c =
       out = ap (λ (d : CloseDone). d.out) e;
     }
 
-pub returns-in_default-try_from : goal.returns-in_default-try_from
-returns-in_default-try_from c =
-    let a = c.args in
-    let e = other_staging a.state.now a.time a.tables.now a.staging.now a.slots.now a.out.now c.in_default-try_from.ensures.1 in
-    record {
-      number = ap (λ (d : CloseDone). d.answer.number) e;
-      state = ap (λ (d : CloseDone). d.answer.state) e;
-      summary = search rules;
-      tables = c.in-Some.ensures.cases.same ∙ ap (λ (d : CloseDone). d.tables) e;
-      slots = ap (λ (d : CloseDone). d.slots) e;
-      out = ap (λ (d : CloseDone). d.out) e;
-    }
-
-pub returns-in_err-check : goal.returns-in_err-check
-returns-in_err-check c =
-    let a = c.args in
-    let t : length a.tables.now ≡ table_bytes = c.in-Some.ensures.cases.long in
-    let g : length a.staging.now ≡ staging_bytes = c.in-Ok.ensures.1.long in
-    let x : Cause = c.in_err-check.field-0.0 in
-    let f : (c.is_right.result ≡ false) × (x ≡ BufferOrState) = failed c.is_right.result _ _ x c.check.result c.check.ensures c.in_err-check.was in
-    let n : call_number c.from_residual.result ≡ cause_number x = search rules in
-    let e = close_refused a.state.now a.time a.tables.now a.staging.now a.slots.now a.out.now t g (sym c.is_right.ensures ∙ f.0) in
-    record {
-      number = n ∙ ap cause_number f.1 ∙ ap (λ (d : CloseDone). d.answer.number) e;
-      state = ap (λ (d : CloseDone). d.answer.state) e;
-      summary = search rules;
-      tables = c.in-Some.ensures.cases.same ∙ ap (λ (d : CloseDone). d.tables) e;
-      slots = ap (λ (d : CloseDone). d.slots) e;
-      out = ap (λ (d : CloseDone). d.out) e;
-    }
-
 right_is : (l : In_ok-check)
-    → (endable l.args.state.now table_bytes staging_bytes l.args.slots.now && out_right l.args.state.now.capacity (length l.args.out.now)) ≡ true
+    → let a = l.args in
+    (endable a.state.now (length a.tables.now) (length a.staging.now) a.slots.now && out_right a.state.now.capacity (length a.out.now)) ≡ true
 right_is l = sym l.is_right.ensures ∙ passed l.is_right.result _ _ _ l.check.result l.check.ensures l.in_ok-check.was
 
 accepted : (l : In_ok-check)
-    → let a = l.args in CloseAccepted a.state.now table_bytes staging_bytes a.slots.now (length a.out.now)
-accepted l = close_right l.args.state.now table_bytes staging_bytes l.args.slots.now (length l.args.out.now) (right_is l)
+    → let a = l.args in
+    CloseAccepted a.state.now (length a.tables.now) (length a.staging.now) a.slots.now (length a.out.now)
+accepted l =
+    let a = l.args in
+    close_right a.state.now (length a.tables.now) (length a.staging.now) a.slots.now (length a.out.now) (right_is l)
 
 pub summary_of-summary-requires : goal.summary_of-summary-requires
 summary_of-summary-requires c = (accepted (goal.at.summary_of-summary-requires c).In_ok-check).limits
@@ -74,7 +48,7 @@ write_packets-requires c =
     let k = accepted (goal.at.write_packets-requires c).In_ok-check in
     let capacity = c.args.state.now.capacity in
     record {
-      s_value = (k.limits, k.out_is ∙ sym (ap span_bytes c.close_span-span.ensures));
+      s_value = (k.limits, k.lent.tables_are, k.out_is ∙ sym (ap span_bytes c.close_span-span.ensures));
       summary_value = c.summary_of-summary.ensures;
       many_in_bounds = rw c.close_span-span.ensures (
         omega (arith, k.lent.slots_are, slots_in_packets capacity),
@@ -88,16 +62,12 @@ end-requires c = (accepted (goal.at.end-requires c).In_ok-check).can_end
 pub returns : goal.returns
 returns c =
     let a = c.args in
-    let t : length a.tables.now ≡ table_bytes = c.in-Some.ensures.cases.long in
-    let g : length a.staging.now ≡ staging_bytes = c.in-Ok.ensures.1.long in
-    let tables = c.in-Some.ensures.cases.same in
-    let staging = c.in-Ok.ensures.1.same in
-    let e = close_carried a.state.now a.time a.tables.now a.staging.now a.slots.now a.out.now t g (right_is (goal.at.returns c).In_ok-check) in
+    let e = close_carried a.state.now a.time a.tables.now a.staging.now a.slots.now a.out.now (right_is (goal.at.returns c).In_ok-check) in
     record {
       number = ap (λ (d : CloseDone). d.answer.number) e;
       state = c.end.ensures.state ∙ ap (λ (d : CloseDone). d.answer.state) e;
       summary = c.summary_of-summary.ensures ∙ ap (λ (d : CloseDone). d.answer.summary) e;
-      tables = (rw (tables, staging) at c.end.ensures.tables) ∙ ap (λ (d : CloseDone). d.tables) e;
+      tables = c.end.ensures.tables ∙ ap (λ (d : CloseDone). d.tables) e;
       slots = c.end.ensures.slots ∙ ap (λ (d : CloseDone). d.slots) e;
-      out = (rw (tables, c.close_span-span.ensures) at c.write_packets.ensures) ∙ ap (λ (d : CloseDone). d.out) e;
+      out = (rw c.close_span-span.ensures at c.write_packets.ensures) ∙ ap (λ (d : CloseDone). d.out) e;
     }

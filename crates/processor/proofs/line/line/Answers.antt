@@ -9,7 +9,7 @@ use Rattle.load.specs.Staging.{staging_bytes}
 use Rattle.command.specs.Grammar.{bytes_ok}
 use Rattle.state.specs.Limits.{within_limits}
 use Rattle.take_line.specs.Line.{LineDone, line_lent}
-use Rattle.processor.proofs.Lent.{failed, passed, other_first, other_second, other_last, line_unlent, line_judged}
+use Rattle.processor.proofs.Lent.{failed, passed, other_second, other_last, line_unlent, line_judged}
 use Rattle.processor.proofs.line.line.Goals as goal
 
 pub returns-in_default-try_from : goal.returns-in_default-try_from

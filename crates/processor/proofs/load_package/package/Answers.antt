@@ -1,15 +1,14 @@
 -- Buffers of another length are left as they were; those of their length are what a package is staged in.
-use Rattle.std.proofs.Common.{◌≡◌, refl, ap, ◌∙◌, Bool, true, false, not, cond, rules, eqb, length, Ok, Err}
-use Rattle.causes.specs.declared.Cause.{Cause}
+use Rattle.std.proofs.Common.{◌≡◌, refl, ap, ◌∙◌, Bool, true, false, not, cond, eqb, length, Ok, Err}
 use Rattle.causes.specs.declared.Cause.TheVariants.{PackageSum}
-use Rattle.causes.specs.Causes.{carried_out, package_sum, cause_number, call_number}
+use Rattle.causes.specs.Causes.{carried_out, package_sum, call_number}
 use Rattle.echo.specs.Echo.{echo_bytes}
 use Rattle.load.specs.Bitmap.{bitmap_bytes}
 use Rattle.load.specs.Staging.{staging_bytes, received_sum, computed_sum}
 use Rattle.take_package.specs.Judged.{number_of}
 use Rattle.take_package.specs.Package.{package_lent}
 use Rattle.processor.specs.Package.{PackageDone}
-use Rattle.processor.proofs.Lent.{other_first, other_second, other_last, package_unlent, package_refused, package_taken}
+use Rattle.processor.proofs.Lent.{other_first, other_second, other_last, package_unlent, package_taken}
 use Rattle.processor.proofs.load_package.package.Goals as goal
 
 pub returns-in_default : goal.returns-in_default
