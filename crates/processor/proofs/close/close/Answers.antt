@@ -40,6 +40,8 @@ accepted l =
     let a = l.args in
     close_right a.state.now (length a.tables.now) (length a.staging.now) a.slots.now (length a.out.now) (right_is l)
 
+-- A state that is judged right is within its limits, so that its summary
+-- is that of its interval.
 pub summary_of-summary-requires : goal.summary_of-summary-requires
 summary_of-summary-requires c = (accepted (goal.at.summary_of-summary-requires c).In_ok-check).limits
 
