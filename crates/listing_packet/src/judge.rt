@@ -1,5 +1,5 @@
 // What a gatherer finds in a packet, or why it refuses one.
-ghost use Rattle.std.specs.Prelude.{◌≡◌, ◌<◌, cond, IfOk, IfSome};
+ghost use Rattle.std.specs.Prelude.{◌≡◌, ◌<◌, cond, length, IfOk, IfSome};
 ghost use Rattle.causes.specs.Causes.{call_number};
 ghost use Rattle.packet.specs.Layout.{packet_bytes};
 ghost use Rattle.listing_packet.specs.Listing.{listing_packets, place_in, address_listed, rest_zero, gather_number};
@@ -21,16 +21,24 @@ pub struct Listed<'a> {
     ghost place_fits: { place < listing_packets },
 }
 
+// Which of the 250 has the packet's address, if it is one of theirs.
+pub fn place_in(packet: &[u8]) -> usize
+    requires { length packet.now ≡ packet_bytes }
+    ensures { result ≡ place_in packet.now }
+{
+    // `as`: Rust has no `usize::from` of a u32.
+    let address = u24_at(packet, layout::ADDRESS_AT) as usize;
+    address.saturating_sub(tables::FIRST) / layout::PACKET_WORDS
+}
+
 // Which of the 250 has the packet's address, if one of them has.
 #[tactic(auto, unfolding(crate::specs::Listing::address_listed))]
 fn place_of(packet: &[u8; PACKET_BYTES]) -> Option<usize>
     ensures place { result ≡ cond (address_listed packet.now) (Some (place_in packet.now)) None }
     ensures listed { IfSome result (λ i. (i ≡ place_in packet.now) × (i < listing_packets)) }
 {
-    // `as`: Rust has no `usize::from` of a u32.
     let address = u24_at(packet, layout::ADDRESS_AT) as usize;
-    let words = address.checked_sub(tables::FIRST)?;
-    let i = words / layout::PACKET_WORDS;
+    let i = place_in(packet);
     let listed = i < layout::PACKETS;
     if listed & (address == tables::FIRST + layout::PACKET_WORDS * i) {
         Some(i)
