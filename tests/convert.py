@@ -109,6 +109,13 @@ def failures():
     with interrupting() as environment:
         check_run("interrupted, three bytes at a time", ["second"], b"".join(ARCHIVE), written(ARCHIVE, paper.CONVERTED),
                   [counted(ARCHIVE, paper.CONVERTED)], env=environment)
+    # More often than the text has bytes: no number of them is too many.
+    with interrupting(INTERRUPTS="1000") as environment:
+        check_run("interrupted a thousand times", ["second"], OLD[0], written(OLD[:1], paper.CONVERTED),
+                  [counted(OLD[:1], paper.CONVERTED)], env=environment)
+    with interrupting(MOVES_NOTHING="1") as environment:
+        _, lines, _ = run(["second"], input=OLD[0], env=environment)
+        check("convert: a write that moves nothing", lines, [f"{BIN}/convert: cannot write standard output: write zero"])
 
 
 for case in (packets, there_and_back, cut, arguments, pieces, little_memory, failures):

@@ -791,9 +791,25 @@ def interrupted():
             check(f"{program}: interrupted, three bytes at a time", without_packets(printed) + line + f"{status}\n", want)
             printed, line, _ = run_on(program, None, input=INTERVAL, env=environment)
             check(f"{program}: interrupted, no tables.bin", printed + line, ["refused 1"])
+    # More often than the text has bytes: no number of them is too many.
+    with interrupting(INTERRUPTS="1000") as environment:
+        for program in PROGRAMS:
+            printed, line, status = run_on(program, input=b"\xff", env=environment)
+            check(f"{program}: interrupted a thousand times", printed + line + f"{status}\n", ["bad record", "0"])
+            printed, line, _ = run_on(program, None, input=INTERVAL, env=environment)
+            check(f"{program}: interrupted a thousand times, no tables.bin", printed + line, ["refused 1"])
+
+
+def moved_nothing():
+    """A write that moves nothing and has no error is told, and ends the run."""
+    with interrupting(MOVES_NOTHING="1") as environment:
+        for program in PROGRAMS:
+            printed, line, status = run_on(program, input=INTERVAL, env=environment)
+            check(f"{program}: a write that moves nothing", printed + line + f"{status}\n",
+                  [f"{BIN}/{program}: cannot write standard output: write zero", "0"])
 
 
 for case in (start_and_end, ranges, million, columns, samples, sample_counts, readings, commands, zero_bytes, long_bodies, loads, asks, bad_bytes, packets, editions, conversions, listings, gathers, states, no_states, limits, handed_slots, handed_numbers, example, session, frames, pieces,
-             pieces_of_minute, held_open, failed_reads, failed_writes, interrupted):
+             pieces_of_minute, held_open, failed_reads, failed_writes, interrupted, moved_nothing):
     case()
 finish()

@@ -33,12 +33,12 @@ def check(name, got, want):
 
 
 @contextlib.contextmanager
-def interrupting():
-    """An environment in which reads and writes are interrupted by a signal, and move three bytes at most."""
+def interrupting(**variables):
+    """An environment in which reads and writes are interrupted by a signal, and move three bytes at most; see interrupts.c."""
     with tempfile.TemporaryDirectory() as room:
         library = os.path.join(room, "libinterrupts.so")
         subprocess.run(["cc", "-O2", "-shared", "-fPIC", "-o", library, os.path.join(HERE, "interrupts.c")], check=True)
-        yield dict(os.environ, LD_PRELOAD=library)
+        yield dict(os.environ, LD_PRELOAD=library, **variables)
 
 
 def finish():

@@ -7,21 +7,26 @@ use crate::transfer::tell;
 use std::io::{Error, ErrorKind, Read};
 use std::marker::Model;
 
-// The bytes of the buffer from `at` to before `end` are read and not yet used: a contract sees these, which wait. No `BufReader`,
-// whose buffer is on the heap.
-#[derive(Drop)]
-pub struct Input<'a> {
-    buffer: &'a mut [u8],
-    at: usize,
-    end: usize,
+// The bytes of a buffer from `at` to before `end` are read and not yet used.
+#[derive(Clone, Copy)]
+pub struct Input {
+    pub at: usize,
+    pub end: usize,
 }
 
-impl<'a> Model for Input<'a> {
+// A lent buffer, and where its bytes wait: a contract sees these. No `BufReader`, whose buffer is on the heap.
+#[derive(Drop)]
+pub struct Reader<'a> {
+    buffer: &'a mut [u8],
+    waits: Input,
+}
+
+impl<'a> Model for Reader<'a> {
     ghost Value = { List ℕ };
 
-    ghost view = { λ i. take (i.end - i.at) (drop i.at i.buffer.now) };
+    ghost view = { λ r. take (r.waits.end - r.waits.at) (drop r.waits.at r.buffer.now) };
 
-    ghost invariant = { λ i. (i.at ≤ i.end) × (i.end ≤ length i.buffer.now) };
+    ghost invariant = { λ r. (r.waits.at ≤ r.waits.end) × (r.waits.end ≤ length r.buffer.now) };
 }
 
 // Room for the longest body, and for much input at a time.
@@ -94,15 +99,14 @@ pub fn read_full<R: Read>(rt: &HostRuntime, from: &mut R, buffer: &mut [u8], wha
     read_told(rt, from, buffer, 0, n, what)
 }
 
-impl<'a> Input<'a> {
+impl<'a> Reader<'a> {
     // Nothing is read yet.
-    pub fn new(buffer: &'a mut [u8]) -> Input<'a>
+    pub fn new(buffer: &'a mut [u8]) -> Reader<'a>
         ensures { result ≡ [] }
     {
-        Input {
+        Reader {
             buffer,
-            at: 0,
-            end: 0,
+            waits: Input { at: 0, end: 0 },
         }
     }
 
@@ -110,7 +114,7 @@ impl<'a> Input<'a> {
     pub fn waiting(&self) -> &[u8]
         ensures { result.now ≡ self.now }
     {
-        &self.buffer[self.at..self.end]
+        &self.buffer[self.waits.at..self.waits.end]
     }
 
     // The first n bytes are used.
@@ -118,7 +122,7 @@ impl<'a> Input<'a> {
         requires { n ≤ length self.old }
         ensures { self.new ≡ drop n self.old }
     {
-        self.at += n;
+        self.waits.at += n;
     }
 
     // Reads until n bytes wait, or as many as are left of the input. Those that waited still do, in front. A read may wait for
@@ -126,7 +130,7 @@ impl<'a> Input<'a> {
     pub fn fill(&mut self, n: usize, text: &mut Text)
         ensures { Begins self.old self.new }
     {
-        let held = self.end - self.at;
+        let held = self.waits.end - self.waits.at;
         if n <= held {
             return;
         }
@@ -134,9 +138,8 @@ impl<'a> Input<'a> {
         if text.failed() {
             return;
         }
-        self.buffer.copy_within(self.at..self.end, 0);
-        self.at = 0;
-        self.end = held;
+        self.buffer.copy_within(self.waits.at..self.waits.end, 0);
+        self.waits = Input { at: 0, end: held };
         self.read(n, text);
     }
 
@@ -146,11 +149,11 @@ impl<'a> Input<'a> {
     {
         let rt = text.rt();
         let what = b"cannot read standard input";
-        let held = self.end - self.at;
+        let held = self.waits.end - self.waits.at;
         let got = read_told(
             rt,
             &mut rt.stdin(),
-            &mut self.buffer[self.at..],
+            &mut self.buffer[self.waits.at..],
             held,
             n,
             what,
@@ -158,6 +161,6 @@ impl<'a> Input<'a> {
         if got.failed.is_some() {
             text.fail();
         }
-        self.end = self.at + got.bytes;
+        self.waits.end = self.waits.at + got.bytes;
     }
 }

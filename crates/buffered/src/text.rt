@@ -1,25 +1,42 @@
 // Text for standard output, gathered in a lent buffer. A full buffer is written out.
 ghost use Rattle.std.specs.Prelude.{◌≡◌, ◌≤◌, true, false, length};
 
-use crate::transfer::tell;
+use crate::transfer::{tell, write_all};
 use echo::hex_digit;
+use itoa::Buffer;
 use std::fmt;
 use std::fmt::{Display, Formatter};
-use std::io::{ErrorKind, Write};
+use std::io::{Error, ErrorKind};
 
 pub const TEXT_BYTES: usize = 65536;
+
+// Why standard output took no more bytes. A write that moves none is told in fewer words than `write_all` has for it.
+fn reason(error: Error) -> Error {
+    match error.kind() {
+        ErrorKind::WriteZero => Error::from(ErrorKind::WriteZero),
+        _ => error,
+    }
+}
 
 // Writes the bytes to standard output; whether all of them: a `bool`, since what failed is told here. That nobody reads them any
 // more is not.
 pub fn print(rt: &HostRuntime, bytes: &[u8]) -> bool {
-    match rt.stdout().write_all(bytes) {
+    match write_all(&mut rt.stdout(), bytes) {
         Ok(()) => true,
         Err(error) => {
             if error.kind() != ErrorKind::BrokenPipe {
-                tell(rt, b"cannot write standard output", error);
+                tell(rt, b"cannot write standard output", reason(error));
             }
             false
         }
+    }
+}
+
+// Two digits for each byte, for which there is room.
+fn write_hex(room: &mut [u8], s: &[u8]) {
+    for (pair, b) in room.chunks_exact_mut(2).zip(s) {
+        pair[0] = hex_digit(*b / 16);
+        pair[1] = hex_digit(*b % 16);
     }
 }
 
@@ -82,17 +99,31 @@ impl<'a> Text<'a> {
         }
     }
 
+    // Copied at once where all of them fit.
     pub fn bytes(&mut self, s: &[u8]) {
-        for b in s {
-            self.byte(*b);
+        if s.len() <= self.buffer.len() - self.filled {
+            let end = self.filled + s.len();
+            self.buffer[self.filled..end].copy_from_slice(s);
+            self.filled = end;
+        } else {
+            for b in s {
+                self.byte(*b);
+            }
         }
     }
 
-    // Two digits for each byte. By a `Display` each digit would take some eighty instructions.
+    // Two digits for each byte, written at once where all of them fit. By a `Display` each digit would take some eighty
+    // instructions.
     pub fn hex(&mut self, s: &[u8]) {
-        for b in s {
-            self.byte(hex_digit(*b / 16));
-            self.byte(hex_digit(*b % 16));
+        if s.len() <= (self.buffer.len() - self.filled) / 2 {
+            let end = self.filled + 2 * s.len();
+            write_hex(&mut self.buffer[self.filled..end], s);
+            self.filled = end;
+        } else {
+            for b in s {
+                self.byte(hex_digit(*b / 16));
+                self.byte(hex_digit(*b % 16));
+            }
         }
     }
 
@@ -114,14 +145,16 @@ impl<'a> fmt::Write for Text<'a> {
     }
 }
 
-// Numbers, each with a space before it.
+// Numbers, each with a space before it. By `itoa`, since a `write!` for each would take more instructions.
 #[derive(Clone, Copy)]
 pub struct Numbers<'a>(pub &'a [u32]);
 
 impl<'a> Display for Numbers<'a> {
     fn fmt<W: fmt::Write>(&self, f: &mut Formatter<W>) -> fmt::Result {
+        let mut digits = Buffer::new();
         for n in self.0 {
-            write!(f, " {n}")?;
+            f.write_str(" ")?;
+            f.write_str(digits.format(*n))?;
         }
         Ok(())
     }

@@ -1,7 +1,20 @@
 // Failures, told on standard error.
 use crate::reason::write_reason;
 use std::env::Env;
-use std::io::{Error, Write};
+use std::io::{Error, Result, Write};
+
+// Writes all the bytes, tried again however often a signal interrupts it: the `write_all` of `Stdout` and `Stderr` themselves, which
+// is that of `Print`, gives up.
+pub fn write_all<W: Write>(to: &mut W, bytes: &[u8]) -> Result<()> {
+    to.write_all(bytes)
+}
+
+// Writes the digits of a number, in base ten.
+pub fn write_decimal<W: Write>(to: &mut W, n: u64) -> Result<()> {
+    let mut digits = [0u8; 20];
+    let k = io::decimal(n, &mut digits);
+    to.write_all(&digits[..k])
+}
 
 // The longest name of a program that is told.
 const NAME_BYTES: usize = 4096;

@@ -2,7 +2,7 @@
 #![tactic(auto)]
 
 use buffered::files::read_tables;
-use buffered::input::{INPUT_BYTES, Input};
+use buffered::input::{INPUT_BYTES, Reader};
 use buffered::text::{TEXT_BYTES, Text, print};
 use load::staging::STAGING_BYTES;
 use minute_calls::calls::{Aboard, print_refusal};
@@ -75,7 +75,7 @@ fn main(rt: HostRuntime) {
         slots: &mut slots,
     });
     let mut session = Session {
-        input: Input::new(&mut buffer),
+        input: Reader::new(&mut buffer),
         text: Text::new(&rt, &mut text),
     };
     run(&mut minute, &mut session);

@@ -19,7 +19,7 @@ use echo::ECHO_BYTES;
 use load::bitmap::BITMAP_BYTES;
 use output::Summary;
 use state::State;
-use stream::kind::{EVENT_BYTES, Kind};
+use stream::kind::{BadRecord, EVENT_BYTES, Kind};
 use stream::record::{close, event, reading};
 use stream::start::OUT_BYTES;
 use wire::words::length_before;
@@ -133,6 +133,26 @@ impl<'a> Aboard<'a> {
         }
     }
 
+    // The same by the number of its kind; a record of no kind is carried out as a line.
+    #[tactic(auto, using(stream::proofs::KindLaws::no_kind), unfolding(crate::specs::Calls::kind_done))]
+    pub fn carry_out_byte(&mut self, kind: u8, body: &[u8], text: &mut Text) -> Result<(), Cause>
+        requires { LongAs kind (length body.now) }
+        ensures number { call_number result
+            ≡ (kind_done kind self.old.state self.old.tables.now self.old.staging.now self.old.slots.now body.now).answer.number }
+        ensures state { self.new.state
+            ≡ (kind_done kind self.old.state self.old.tables.now self.old.staging.now self.old.slots.now body.now).answer.state }
+        ensures tables { self.new.tables.now
+            ≡ (kind_done kind self.old.state self.old.tables.now self.old.staging.now self.old.slots.now body.now).tables }
+        ensures staging { self.new.staging.now ≡ self.old.staging.now }
+        ensures slots { self.new.slots.now
+            ≡ (kind_done kind self.old.state self.old.tables.now self.old.staging.now self.old.slots.now body.now).slots }
+    {
+        match Kind::try_from(kind) {
+            Ok(kind) => self.carry_out(kind, body, text),
+            Err(BadRecord) => self.line(body),
+        }
+    }
+
     // The events that stand first where bytes wait, one after the other; how many bytes they are.
     pub fn events(&mut self, waiting: &[u8], text: &mut Text) -> usize
         ensures used { result ≤ length waiting.now }
@@ -141,14 +161,12 @@ impl<'a> Aboard<'a> {
         ensures run { EventsRun self.old.state self.old.tables.now self.old.slots.now waiting.now result self.new.state self.new.slots.now }
         ensures all { NoEvent result (length waiting.now) waiting.now }
     {
-        run_events(&mut self.state, self.tables, self.slots, waiting, text)
+        events(&mut self.state, self.tables, self.slots, waiting, text)
     }
 }
 
-// The same of a state and buffers, lent each by itself, as the check covers it. The place in the bytes that wait is counted,
-// since it is what is handed back: chunks would need it beside them.
-#[tactic(auto, using(crate::proofs::EventLaws::events_none, crate::proofs::EventLaws::events_more))]
-fn run_events(
+// The same of a state and buffers, lent each by itself, as the check covers it.
+fn events(
     state: &mut State,
     tables: &mut [u8],
     slots: &mut [u32],
@@ -158,6 +176,23 @@ fn run_events(
     ensures used { result ≤ length waiting.now }
     ensures tables { tables.new ≡ tables.old }
     ensures run { EventsRun state.old tables.old slots.old waiting.now result state.new slots.new }
+    ensures all { NoEvent result (length waiting.now) waiting.now }
+{
+    run_events(state, tables, slots, waiting, text)
+}
+
+// The same, of which the tables are only read. The place in the bytes that wait is counted, since it is what is handed back: chunks
+// would need it beside them.
+#[tactic(auto, using(crate::proofs::EventLaws::events_none, crate::proofs::EventLaws::events_more))]
+pub fn run_events(
+    state: &mut State,
+    tables: &[u8],
+    slots: &mut [u32],
+    waiting: &[u8],
+    text: &mut Text,
+) -> usize
+    ensures used { result ≤ length waiting.now }
+    ensures run { EventsRun state.old tables.now slots.old waiting.now result state.new slots.new }
     ensures all { NoEvent result (length waiting.now) waiting.now }
 {
     let mut used = 0;

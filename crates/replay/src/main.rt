@@ -2,7 +2,7 @@
 #![tactic(auto)]
 
 use buffered::files::read_tables;
-use buffered::input::{INPUT_BYTES, Input};
+use buffered::input::{INPUT_BYTES, Reader};
 use buffered::text::{TEXT_BYTES, Text, print};
 use echo::ECHO_BYTES;
 use gatherer::Gathered;
@@ -96,7 +96,7 @@ fn main(rt: HostRuntime) {
         },
     };
     let mut session = Session {
-        input: Input::new(&mut buffer),
+        input: Reader::new(&mut buffer),
         text: Text::new(&rt, &mut text),
     };
     run(&mut replay, &mut session);

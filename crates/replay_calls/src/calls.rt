@@ -214,4 +214,18 @@ impl<'a> Aboard<'a> {
             _ => {}
         }
     }
+
+    // The same by the number of its kind; a record of no kind changes nothing.
+    pub fn carry_out_byte(&mut self, kind: u8, body: &[u8], text: &mut Text)
+        requires long { Long kind (length body.now) }
+        requires slots_value { body_right kind body.now (length self.old.slots.now) ≡ true }
+        ensures { Left
+            (kind_done kind self.old.state self.old.tables.now self.old.staging.now self.old.bitmap.now
+            self.old.slots.now self.old.echo.now body.now)
+            self.new.state self.new.tables.now self.new.staging.now self.new.bitmap.now self.new.slots.now self.new.echo.now }
+    {
+        if let Ok(kind) = Kind::try_from(kind) {
+            self.carry_out(kind, body, text);
+        }
+    }
 }

@@ -69,4 +69,15 @@ impl<'a> Ground<'a> {
             _ => {}
         }
     }
+
+    // The same by the number of its kind; a record of no kind changes nothing.
+    #[tactic(auto, using(stream::proofs::KindLaws::no_kind), unfolding(crate::specs::Ground::ground_out))]
+    pub fn carry_out_byte(&mut self, kind: u8, body: &[u8], text: &mut Text)
+        ensures { gatherer self.new.gathered self.new.table.now
+            ≡ ground_out kind (gatherer self.old.gathered self.old.table.now) body.now }
+    {
+        if let Ok(kind) = Kind::try_from(kind) {
+            self.carry_out(kind, body, text);
+        }
+    }
 }

@@ -88,3 +88,15 @@ pub fn is_right(kind: Kind, body: &[u8], slots: usize) -> bool
         _ => true,
     }
 }
+
+// The same by the number of its kind; a body of no kind has no test.
+#[tactic(auto, using(stream::proofs::KindLaws::no_kind), unfolding(crate::specs::Record::body_right))]
+pub fn is_right_byte(kind: u8, body: &[u8], slots: usize) -> bool
+    requires { Long kind (length body.now) }
+    ensures { result ≡ body_right kind body.now slots }
+{
+    match Kind::try_from(kind) {
+        Ok(kind) => is_right(kind, body, slots),
+        Err(BadRecord) => true,
+    }
+}

@@ -72,3 +72,14 @@ impl TryFrom<u8> for Kind {
         }
     }
 }
+
+// The length of a body by the number of its kind, where that is the same in both programs; else 0.
+#[tactic(auto, using(crate::proofs::KindLaws::no_kind))]
+pub fn fixed_bytes_of(kind: u8) -> usize
+    ensures { (result ≤ 16) × LongAs kind result }
+{
+    match Kind::try_from(kind) {
+        Ok(kind) => kind.fixed_bytes().unwrap_or(0),
+        Err(BadRecord) => 0,
+    }
+}

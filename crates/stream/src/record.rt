@@ -58,6 +58,16 @@ pub fn whole(session: &mut Session, kind: Kind, head: usize, n: usize) -> Next
     }))
 }
 
+// The same by the number of its kind; a byte of no kind is a bad record.
+pub fn whole_byte(session: &mut Session, kind: u8, head: usize, n: usize) -> Next
+    requires le_head { (1 ≤ head) × (head + n ≤ input_bytes) }
+    requires at_lt_end { (0 < length session.old.input) × (get_or session.old.input 0 0 ≡ kind) }
+    ensures found_in { FoundIn result session.old.input session.new.input }
+    ensures of { IsOf kind head n result }
+{
+    whole(session, Kind::try_from(kind)?, head, n)
+}
+
 // The flags' values in an event's last byte, and the largest that they make.
 const FLG0: u8 = 1;
 

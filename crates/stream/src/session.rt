@@ -2,13 +2,13 @@
 ghost use Rattle.std.specs.Prelude.{◌≡◌};
 ghost use Rattle.buffered.specs.Input.{Begins};
 
-use buffered::input::Input;
+use buffered::input::Reader;
 use buffered::text::Text;
 
 // Both are needed wherever input is read: the text is written out before a read, which may wait.
 #[derive(Drop)]
 pub struct Session<'a> {
-    pub input: Input<'a>,
+    pub input: Reader<'a>,
     pub text: Text<'a>,
 }
 

@@ -6,7 +6,7 @@ use Rattle.minute_calls.proofs.calls.run_events.Given as goal
 abbrev pub invariant-loop-used : goal.invariant-loop-used
 invariant-loop-used l = record {
   used : l.used ≤ length l.waiting;
-  run : EventsRun l.initial.state l.initial.tables l.initial.slots l.waiting l.used l.state l.slots;
+  run : EventsRun l.initial.state l.tables l.initial.slots l.waiting l.used l.state l.slots;
 }
 
 abbrev pub decreases-loop-used : goal.decreases-loop-used

@@ -2,7 +2,7 @@
 use Rattle.std.proofs.Common.{◌≡◌, ℕ, ◌+◌, ◌-◌, ◌≤◌, List, length, take, drop, sym, ap, ◌∙◌, arith}
 use Rattle.std.proofs.lemmas.List.{drop-take, drop-drop}
 use Rattle.std.proofs.Math.ListN.{length-take}
-use Rattle.buffered.proofs.input.Input.skip.Goals as goal
+use Rattle.buffered.proofs.input.Reader.skip.Goals as goal
 
 skipped : (at end n : ℕ) (b : List ℕ) → n ≤ length (take (end - at) (drop at b))
     → take (end - (at + n)) (drop (at + n) b) ≡ drop n (take (end - at) (drop at b))
@@ -15,4 +15,4 @@ pub returns : goal.returns
 returns c =
     let i = c.self.inside in
     let v = c.self.view_is in
-    skipped i.at i.end c.args.n i.buffer.now (omega (arith, c.requires, ap length v)) ∙ ap (drop c.args.n) v
+    skipped i.waits.at i.waits.end c.args.n i.buffer.now (omega (arith, c.requires, ap length v)) ∙ ap (drop c.args.n) v
