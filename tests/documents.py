@@ -10,8 +10,8 @@
 In docs/READING-THE-PROOFS.md each name of a row stands in one of the row's files, every must-fail edit is named in a row of its
 crate, and the functions of such a row stand in that crate. In docs/ARCHITECTURE.md every crate is named, and in its map each stands
 above all that it stands on. In docs/CHANGES.md a name of earlier days may stand that its table "Names that have changed" has in the
-first column, and a name in the spelling of its day. docs/PORT.md and docs/DESIGN-PASS.md, which name
-what stood before, are left out.
+first column, and a name in the spelling of its day. docs/PORT.md, docs/DESIGN-PASS.md
+and docs/LOOK-BACK.md, which name what stood before, are left out.
 
     python3 tests/documents.py         prints what is missing; the last line is 'N passed, M failed'
 """
@@ -20,7 +20,7 @@ from pathlib import Path
 
 ROOT = Path(__file__).resolve().parent.parent
 CRATES = ROOT / "crates"
-PAGES = sorted(f"docs/{p.name}" for p in (ROOT / "docs").glob("*.md") if p.name not in ("PORT.md", "DESIGN-PASS.md"))
+PAGES = sorted(f"docs/{p.name}" for p in (ROOT / "docs").glob("*.md") if p.name not in ("PORT.md", "DESIGN-PASS.md", "LOOK-BACK.md"))
 DOCUMENTS = ["README.md", "bench/README.md", "reference/README.md", *PAGES]
 READING = "docs/READING-THE-PROOFS.md"
 PATH = re.compile(r"^[\w.-]+(/[\w.-]+)+/?$")
