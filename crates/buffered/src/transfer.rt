@@ -1,4 +1,4 @@
-// Failures, told on standard error.
+// Writes, which go on after a short one and are tried again after a signal, and failures, told on standard error.
 use crate::reason::write_reason;
 use std::env::Env;
 use std::io::{Error, Result, Write};
