@@ -99,9 +99,11 @@ impl<'a> Text<'a> {
         }
     }
 
-    // Copied at once where all of them fit.
+    // Copied at once where all of them fit; a single one, as a space or a digit, by itself, which takes less time than a copy.
     pub fn bytes(&mut self, s: &[u8]) {
-        if s.len() <= self.buffer.len() - self.filled {
+        if let [b] = s {
+            self.byte(*b);
+        } else if s.len() <= self.buffer.len() - self.filled {
             let end = self.filled + s.len();
             self.buffer[self.filled..end].copy_from_slice(s);
             self.filled = end;
