@@ -43,7 +43,7 @@ impl BigEndian for u8 {
     }
 }
 
-// An impl for each width: the library's `to_be_bytes` stands in no trait.
+// An impl for each width: the library's `from_be_bytes` stands in no trait.
 impl BigEndian for u16 {
     ghost width = { 2 };
 
